@@ -1,0 +1,4 @@
+use Prim.Native.Nat.{ℕ}
+
+abbrev pub levels : ℕ
+levels = 16

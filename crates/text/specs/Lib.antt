@@ -1,0 +1,7 @@
+-- What the contracts of `text` cite.
+pub mod Base
+pub mod Utf8
+pub mod Strings
+pub mod Json
+pub mod Machine
+pub mod Reading

@@ -1,0 +1,72 @@
+-- What a function that reads a part of a text promises: equations on the twin's reader, whatever may be owed behind the part.
+-- Nothing here need be believed (see Machine).
+--   Leads s xs a ys i   the items xs, owed at place a, come to the items ys, owed at place i
+--   Done s xs a e       they are done at e
+--   Falls s xs a v      they give the whole text the verdict v, which is not Whole
+use mathlib.Core.Path.{_≡_}
+use mathlib.Core.List.{List, [], _∷_, _++_}
+use Prim.Native.Nat.{ℕ, _-_, _≤_, _<_}
+use lib.ListN.{length}
+use Rattle.text.specs.Machine.{Item, ws, value, first, next, inner, from}
+use Rattle.text.specs.declared.scan.Verdict.{Verdict}
+use Rattle.text.specs.declared.scan.Verdict.the-variants.{Whole, Breaks, Deep}
+use Rattle.text.specs.declared.scan.Part.{Part}
+use Rattle.text.specs.declared.scan.Part.the-variants.{Past, Fails}
+use Rattle.text.specs.declared.scan.Shape.{Shape}
+use Rattle.text.specs.declared.scan.Begun.{Begun}
+use Rattle.text.specs.declared.scan.Begun.the-variants.{Ends, Inner}
+use Rattle.text.specs.declared.scan.Next.{Next}
+use Rattle.text.specs.declared.scan.Next.the-variants.{Inner as Another, Closed, Fails as Stops}
+
+pub record Leads (s : List ℕ) (xs : List Item) (a : ℕ) (ys : List Item) (i : ℕ) : Type 0 where
+  pub low : a ≤ i
+  pub high : i ≤ length s
+  pub goes : (k : List Item) → from (xs ++ k) s a ≡ from (ys ++ k) s i
+
+abbrev pub Done : List ℕ → List Item → ℕ → ℕ → Type 0
+Done s xs a e = Leads s xs a [] e
+
+-- a verdict other than Whole
+abbrev pub Fault : Verdict → Type 0
+Fault Whole = ⊥
+Fault (Breaks p) = Unit {0}
+Fault Deep = Unit {0}
+
+pub record Falls (s : List ℕ) (xs : List Item) (a : ℕ) (v : Verdict) : Type 0 where
+  pub fault : Fault v
+  pub goes : (k : List Item) → from (xs ++ k) s a ≡ v
+
+-- a part is read so far, or fails
+abbrev pub Goes : List ℕ → List Item → ℕ → Part → Type 0
+Goes s xs a (Past i) = Done s xs a i
+Goes s xs a (Fails v) = Falls s xs a v
+
+-- behind an opening bracket or brace, however many levels are left
+abbrev pub Opened : List ℕ → Shape → ℕ → Begun → ℕ → Type 0
+Opened s sh a (Ends p) n = Goes s (ws ∷ first sh n ∷ []) a p
+Opened s sh a (Inner i sh′) n = (sh′ ≡ sh) × Leads s (ws ∷ first sh n ∷ []) a (inner sh n) i
+
+pub record Opens (s : List ℕ) (sh : Shape) (a : ℕ) (r : Begun) : Type 0 where
+  pub at-any : (n : ℕ) → Opened s sh a r n
+
+-- a value's first inner value takes one of the levels left
+pub record Enters (s : List ℕ) (n a : ℕ) (sh : Shape) (i : ℕ) : Type 0 where
+  pub left : 0 < n
+  pub leads : Leads s (value n ∷ []) a (inner sh (n - 1)) i
+
+abbrev pub Begins : List ℕ → ℕ → ℕ → Begun → Type 0
+Begins s n a (Ends p) = Goes s (value n ∷ []) a p
+Begins s n a (Inner i sh) = Enters s n a sh i
+
+-- behind an inner value
+pub record Continues (s : List ℕ) (sh : Shape) (a i n : ℕ) : Type 0 where
+  pub later : a < i
+  pub leads : Leads s (ws ∷ next sh n ∷ []) a (inner sh n) i
+
+abbrev pub Followed : List ℕ → Shape → ℕ → Next → ℕ → Type 0
+Followed s sh a (Another i) n = Continues s sh a i n
+Followed s sh a (Closed e) n = Done s (ws ∷ next sh n ∷ []) a e
+Followed s sh a (Stops v) n = Falls s (ws ∷ next sh n ∷ []) a v
+
+pub record Follows (s : List ℕ) (sh : Shape) (a : ℕ) (r : Next) : Type 0 where
+  pub at-any : (n : ℕ) → Followed s sh a r n
