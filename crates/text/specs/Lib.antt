@@ -3,5 +3,6 @@ pub mod Base
 pub mod Utf8
 pub mod Strings
 pub mod Json
+pub mod Verdicts
 pub mod Machine
 pub mod Reading

@@ -2,7 +2,7 @@
 -- Nothing here need be believed: Laws/Verdict proves that `verdict` says what specs/Verdicts means.
 --   move x b       what item x does with byte b
 --   run k bs at    the verdict on the bytes bs, which begin at place `at`, where the stack k is owed
---   verdict s      the verdict on a whole text
+--   verdict s      the verdict on a whole text of at most sixteen levels
 use mathlib.Core.Bool.{Bool, true, false}
 use mathlib.Core.List.{List, [], _∷_, _++_, map}
 use Prim.Native.Nat.{ℕ, zero, suc, _+_}
@@ -176,5 +176,9 @@ run k (b ∷ bs) at = after (feed k b) at (λ l. run l bs (at + 1))
 unfoldable pub from : List Item → List ℕ → ℕ → Verdict
 from k s at = run k (drop at s) at
 
-unfoldable pub verdict : List ℕ → Verdict
-verdict s = from (ws ∷ value levels ∷ ws ∷ []) s 0
+-- the verdict on a whole text of at most n levels
+unfoldable pub verdictAt : ℕ → List ℕ → Verdict
+verdictAt n s = from (ws ∷ value n ∷ ws ∷ []) s 0
+
+abbrev pub verdict : List ℕ → Verdict
+verdict s = verdictAt levels s

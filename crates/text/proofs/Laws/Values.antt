@@ -6,7 +6,7 @@ use native.Mathlib.Omega.{arith}
 use native.Mathlib.Numerals.{sub-one}
 use lib.ListN.{length, getD}
 use Rattle.text.specs.Json.{levels}
-use Rattle.text.specs.Machine.{Item, Move, go, deep, ws, byte, text, value, first, next, before, inner, close, opener, opens, move, optional, ends, verdict}
+use Rattle.text.specs.Machine.{Item, Move, go, deep, ws, byte, text, value, first, next, before, inner, close, opener, opens, move, optional, ends, verdictAt, verdict}
 use Rattle.text.specs.Reading.{Leads, Done, Falls, Goes, Opened, Opens, Enters, Begins, Continues, Followed, Follows}
 use Rattle.text.specs.declared.scan.Verdict.{Verdict}
 use Rattle.text.specs.declared.scan.Verdict.the-variants.{Whole, Breaks, Deep}
@@ -152,7 +152,7 @@ module _ {s : List ℕ} {n a i m : ℕ} {sh : Shape} (w : Enters s n a sh i) (d 
 
 module _ {s : List ℕ} {i : ℕ} (w : Done s (ws ∷ []) 0 i) where
   pub verdict-fails : (r : Part) (v : Verdict) → r ≡ Fails v → Goes s (value levels ∷ []) i r → v ≡ verdict s
-  unfolding verdict
+  unfolding verdictAt
   verdict-fails r v e g =
       sym (fall (frame (value levels ∷ ws ∷ []) w) (fall-frame (ws ∷ []) (fell (value levels ∷ []) r v e g)) .goes [])
 
@@ -161,9 +161,9 @@ module _ {s : List ℕ} {i : ℕ} (w : Done s (ws ∷ []) 0 i) where
     all = seq (frame (value levels ∷ ws ∷ []) w) (seq (frame (ws ∷ []) (past (value levels ∷ []) r n e g)) x)
 
     pub verdict-breaks : j < length s → Breaks j ≡ verdict s
-    unfolding verdict
+    unfolding verdictAt
     verdict-breaks h = sym (all .goes [] ∙ past-end s j h)
 
     pub verdict-whole : length s ≤ j → Whole ≡ verdict s
-    unfolding verdict ends
+    unfolding verdictAt ends
     verdict-whole h = sym (all .goes [] ∙ from-empty [] s j (omega (arith, x .high)))
