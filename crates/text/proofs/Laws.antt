@@ -3,3 +3,8 @@ pub mod Reading
 pub mod Moves
 pub mod Places
 pub mod Values
+pub mod Parts
+pub mod Eating
+pub mod Numbers
+pub mod Chars
+pub mod Complete

@@ -86,7 +86,7 @@ module _ {s : List ℕ} {n i : ℕ} (sh : Shape) (h : i < length s) (o : getD s 
 
 -- ---- behind an inner value
 
-next-goes : {s : List ℕ} {i : ℕ} (sh : Shape) (n : ℕ) → i < length s → getD s i 0 ≡ 44 → Leads s (next sh n ∷ []) i (ws ∷ (before sh ++ inner sh n)) (i + 1)
+pub next-goes : {s : List ℕ} {i : ℕ} (sh : Shape) (n : ℕ) → i < length s → getD s i 0 ≡ 44 → Leads s (next sh n ∷ []) i (ws ∷ (before sh ++ inner sh n)) (i + 1)
 next-goes {s} {i} list n h e = takes (next list n) [] (ws ∷ inner list n) h (next-comma (getD s i 0) list n e)
 next-goes {s} {i} object n h e = takes (next object n) [] (ws ∷ (before object ++ inner object n)) h (next-comma (getD s i 0) object n e)
 

@@ -1,0 +1,270 @@
+-- What the grammar reads the twin passes: by induction on the reading, since what follows a value in a text stops every number.
+use mathlib.Core.Path.{_≡_, refl, sym, ap, _∙_, subst}
+use mathlib.Core.Bool.{Bool, true, false}
+use mathlib.Core.List.{List, [], _∷_, _++_, map}
+use Prim.Native.Nat.{ℕ, zero, suc, _+_, _-_, _≤_, _<_, max}
+use native.Mathlib.Omega.{arith}
+use native.Mathlib.Numerals.{sub-one}
+use native.Mathlib.Decide.{decLt}
+use types.Run.{OneOf}
+use mathlib.Core.Logic.{⊎-elim}
+use lib.ListN.{length, getD, drop}
+use lib.Seq.{drop-cons, drop-length}
+use Rattle.text.specs.Base.{In, At, oneOf}
+use Rattle.text.specs.Json.{Json, Values, Members, no-more, also, no-members, named, null, bool, number, string, list, object, depth, depths, depthm, White, tab, line-feed, carriage-return, space, Space, no-space, white, Int, zero, from-1-9, Number, unsigned, negative, Spelt, Quoted, Piece, a-value, elements, rest, members, more, Reads, a-null, a-true, a-false, a-number, a-string, empty-list, some-list, element, close-list, comma-list, empty-object, some-object, member, close-object, comma-object}
+use Rattle.text.specs.Verdicts.{Text}
+use Rattle.text.specs.declared.scan.Verdict.the-variants.{Whole}
+use Rattle.text.specs.Machine.{Item, Move, pass, go, ws, byte, text, value, first, next, before, inner, opens, move, optional, from, run, feed, ends, verdictAt}
+use Rattle.text.specs.Machine as M
+use Rattle.text.specs.Reading.{Leads, Done}
+use Rattle.text.specs.declared.scan.Shape.{Shape}
+use Rattle.text.specs.declared.scan.Shape.the-variants.{List as a-list, Object as an-object}
+use Rattle.text.proofs.Laws.Reading.{seq, frame, takes, passes, skips, alike, from-empty}
+use Rattle.text.proofs.Laws.Values.{next-goes}
+use Rattle.text.proofs.Laws.Parts.{spelt-drop, spelt-length, spelt-first, spelt-one}
+use Rattle.text.proofs.Laws.Eating.{Eats, Passed, Calm, eats-done, word-eats, run-takes}
+use Rattle.text.proofs.Laws.Numbers.{number-eat}
+use Rattle.text.proofs.Laws.Chars.{text-eat}
+use Rattle.text.proofs.Laws.Moves as B
+
+-- ---- what stops a number or white space
+
+-- no number goes on at a place
+pub record Stop (s : List ℕ) (e : ℕ) : Type 0 where
+  pub calm : Calm (drop e s)
+
+calm-byte : (s : List ℕ) (e b : ℕ) → At s e b → move M.digits b ≡ pass → move M.fraction b ≡ pass → move M.exponent b ≡ pass → Stop s e
+unfolding Passed
+calm-byte s e b p d f x =
+    record {
+      calm = subst Calm (sym (drop-cons s e 0 (p .inside)))
+          record {
+            on-digits = ap (move M.digits) (p .is) ∙ d;
+            on-fraction = ap (move M.fraction) (p .is) ∙ f;
+            on-exponent = ap (move M.exponent) (p .is) ∙ x;
+          };
+    }
+
+pub stop-end : (s : List ℕ) → Stop s (length s)
+unfolding Passed optional
+stop-end s = record { calm = subst Calm (sym (drop-length s)) record { on-digits = refl; on-fraction = refl; on-exponent = refl } }
+
+stop-white : {s : List ℕ} {e b : ℕ} → At s e b → White b → Stop s e
+unfolding move oneOf
+stop-white {s} {e} p tab = calm-byte s e 9 p refl refl refl
+stop-white {s} {e} p line-feed = calm-byte s e 10 p refl refl refl
+stop-white {s} {e} p carriage-return = calm-byte s e 13 p refl refl refl
+stop-white {s} {e} p space = calm-byte s e 32 p refl refl refl
+
+-- a byte of structure stops a number, with white space before it or without
+stop-space : {s : List ℕ} {i e b : ℕ} → Space s i e → At s e b → move M.digits b ≡ pass → move M.fraction b ≡ pass → move M.exponent b ≡ pass → Stop s i
+stop-space {s} {i} {e} {b} (no-space h) p d f x = calm-byte s i b p d f x
+stop-space (white q v r) p d f x = stop-white q v
+
+pub stop-rest : {s : List ℕ} {i e : ℕ} {ts : Values} → Reads s (rest ts) i e → Stop s i
+unfolding move oneOf
+stop-rest (close-list w o) = stop-space w o refl refl refl
+stop-rest (comma-list w o x r) = stop-space w o refl refl refl
+
+pub stop-more : {s : List ℕ} {i e : ℕ} {ms : Members} → Reads s (more ms) i e → Stop s i
+unfolding move oneOf
+stop-more (close-object w o) = stop-space w o refl refl refl
+stop-more (comma-object w o x r) = stop-space w o refl refl refl
+
+pub stop-after : {s : List ℕ} {i : ℕ} → Space s i (length s) → Stop s i
+stop-after {s} (no-space h) = stop-end s
+stop-after (white p v r) = stop-white p v
+
+-- ---- white space
+
+pub white-moves : {b : ℕ} → White b → move ws b ≡ go (ws ∷ [])
+unfolding move oneOf
+white-moves tab = refl
+white-moves line-feed = refl
+white-moves carriage-return = refl
+white-moves space = refl
+
+-- all of it, before a byte that is none
+pub space-done : {s : List ℕ} {i e b : ℕ} → Space s i e → At s e b → move ws b ≡ pass → Done s (ws ∷ []) i e
+space-done (no-space h) p m = passes ws [] (p .inside) (ap (move ws) (p .is) ∙ m)
+space-done {s} {i} (white q v r) p m =
+    seq (takes ws [] (ws ∷ []) (q .inside) (ap (move ws) (q .is) ∙ white-moves v)) (space-done r p m)
+
+-- all of it, to the end of the text
+pub space-end : {s : List ℕ} {i : ℕ} → Space s i (length s) → Done s (ws ∷ []) i (length s)
+unfolding optional
+space-end (no-space h) = skips ws [] refl refl
+space-end {s} {i} (white q v r) =
+    seq (takes ws [] (ws ∷ []) (q .inside) (ap (move ws) (q .is) ∙ white-moves v)) (space-end r)
+
+-- ---- the first byte of a value
+
+pub record Starts (s : List ℕ) (i : ℕ) : Type 0 where
+  pub first : ℕ
+  pub at : At s i first
+  pub black : move ws first ≡ pass
+  pub inner : first ≡ 93 → ⊥
+
+starts : {s : List ℕ} {i : ℕ} (b : ℕ) → At s i b → move ws b ≡ pass → (b ≡ 93 → ⊥) → Starts s i
+starts b p m h = record { first = b; at = p; black = m; inner = h }
+
+digit-black : (d : ℕ) → 48 ≤ d → d ≤ 57 → move ws d ≡ pass
+digit-black d l u = B.ws-over d (omega arith) (λ o. no-key o)
+  where
+    no-key : OneOf (13 ∷ 32 ∷ []) d → ⊥
+    no-key o = ⊎-elim (λ e. omega arith) (λ e. omega arith) o
+
+number-starts : {s w : List ℕ} {i e : ℕ} → Number w → Spelt s w i e → Starts s i
+unfolding move oneOf
+number-starts (unsigned zero f x) p = starts 48 (spelt-first p) refl (omega arith)
+number-starts (unsigned (from-1-9 {d} h t) f x) p =
+    let l = h .low in let u = h .high in starts d (spelt-first p) (digit-black d (omega arith) u) (omega arith)
+number-starts (negative i f x) p = starts 45 (spelt-first p) refl (omega arith)
+
+pub value-starts : {s : List ℕ} {i e : ℕ} {t : Json} → Reads s (a-value t) i e → Starts s i
+unfolding move oneOf
+value-starts (a-null p) = starts 110 (spelt-first p) refl (omega arith)
+value-starts (a-true p) = starts 116 (spelt-first p) refl (omega arith)
+value-starts (a-false p) = starts 102 (spelt-first p) refl (omega arith)
+value-starts (a-number p n) = number-starts n p
+value-starts (a-string p) = starts 34 (p .opens) refl (omega arith)
+value-starts (empty-list o w c) = starts 91 o refl (omega arith)
+value-starts (some-list o w r) = starts 91 o refl (omega arith)
+value-starts (empty-object o w c) = starts 123 o refl (omega arith)
+value-starts (some-object o w r) = starts 123 o refl (omega arith)
+
+pub elements-start : {s : List ℕ} {i e : ℕ} {ts : Values} → Reads s (elements ts) i e → Starts s i
+elements-start (element v r) = value-starts v
+
+pub members-start : {s : List ℕ} {i e : ℕ} {ms : Members} → Reads s (members ms) i e → At s i 34
+members-start (member q w o x v r) = q .opens
+
+-- ---- readings are passed
+
+-- the items that read a piece, and how deep it goes
+abbrev pub owed : ℕ → Piece → List Item
+owed n (a-value t) = value n ∷ []
+owed n (elements ts) = inner a-list n
+owed n (rest ts) = ws ∷ next a-list n ∷ []
+owed n (members ms) = before an-object ++ inner an-object n
+owed n (more ms) = ws ∷ next an-object n ∷ []
+
+abbrev pub deepness : Piece → ℕ
+deepness (a-value t) = depth t
+deepness (elements ts) = depths ts
+deepness (rest ts) = depths ts
+deepness (members ms) = depthm ms
+deepness (more ms) = depthm ms
+
+-- a value is done only where no number goes on
+abbrev pub Stopped : List ℕ → Piece → ℕ → Type 0
+Stopped s (a-value t) e = Stop s e
+Stopped s (elements ts) e = Unit {0}
+Stopped s (rest ts) e = Unit {0}
+Stopped s (members ms) e = Unit {0}
+Stopped s (more ms) e = Unit {0}
+
+pub quoted-done : {s w : List ℕ} {i e : ℕ} → Quoted s w i e → Done s (byte 34 ∷ text ∷ []) i e
+unfolding from
+quoted-done {s} {w} {i} {e} p =
+    let l = spelt-length (p .spelt) in
+    let q = p .close in
+    let h = p .closes .inside in
+    let z = p .past in
+    let there : i + 1 + length w + 1 ≡ e = omega arith in
+    let past : suc q ≡ e = omega arith in
+    seq (takes (byte 34) (text ∷ []) [] (p .opens .inside) (B.byte-is (getD s i 0) 34 (p .opens .is)))
+    record {
+      low = omega (arith, p .spelt .order);
+      high = omega arith;
+      goes = λ k. ap (λ (x : List ℕ). run (text ∷ k) x (i + 1)) (spelt-drop (p .spelt) ∙ ap (λ (x : List ℕ). w ++ x) (drop-cons s q 0 h ∙ ap (λ (x : ℕ). x ∷ drop (suc q) s) (p .closes .is)))
+          ∙ text-eat (p .body) k (drop (suc q) s) (i + 1)
+          ∙ ap (run k (drop (suc q) s)) there
+          ∙ ap (λ (n : ℕ). run k (drop n s) e) past;
+    }
+
+module _ {s : List ℕ} where
+  eat-byte : {i b : ℕ} (x : Item) (xs ys : List Item) → At s i b → move x b ≡ go xs → Leads s (x ∷ ys) i (xs ++ ys) (i + 1)
+  eat-byte {i} {b} x xs ys p e = takes x ys xs (p .inside) (ap (move x) (p .is) ∙ e)
+
+  word-done : {i e : ℕ} (n b : ℕ) (w : List ℕ) → Spelt s (b ∷ w) i e → move (value n) b ≡ go (map byte w) → Done s (value n ∷ []) i e
+  word-done {i} {e} n b w p m =
+      eats-done (value n ∷ []) p
+      (λ k at. run-takes (value n) k (w ++ drop e s) at b (map byte w) m ∙ word-eats w (drop e s) k (at + 1) ∙ ap (run k (drop e s)) (omega arith))
+
+  -- an opening byte, white space, and what stands behind it
+  open-done : {i j e : ℕ} (sh : Shape) (n b : ℕ) → At s i (M.opener sh) → Space s (i + 1) j → At s j b → move ws b ≡ pass → Done s (first sh n ∷ []) j e → Done s (value (suc n) ∷ []) i e
+  open-done {i} sh n b o w p m r =
+      seq (eat-byte (value (suc n)) (ws ∷ first sh n ∷ []) [] o (B.value-opens (M.opener sh) (suc n) sh refl))
+      (seq (frame (first sh n ∷ []) (space-done w p m)) r)
+
+  enter-list : {i e : ℕ} (n : ℕ) → Starts s i → Done s (inner a-list n) i e → Done s (first a-list n ∷ []) i e
+  enter-list {i} n v r =
+      seq (alike (first a-list n ∷ []) (inner a-list n) (v .at .inside) (B.first-enters (getD s i 0) a-list n (λ z. v .inner (sym (v .at .is) ∙ z)))) r
+
+  enter-object : {i e : ℕ} (n : ℕ) → At s i 34 → Done s (before an-object ++ inner an-object n) i e → Done s (first an-object n ∷ []) i e
+  enter-object {i} n p r =
+      let z = p .is in
+      seq (alike (first an-object n ∷ []) (before an-object ++ inner an-object n) (p .inside) (B.first-enters (getD s i 0) an-object n (omega arith))) r
+
+  close-done : {i j : ℕ} (sh : Shape) (n : ℕ) → Space s i j → At s j (M.close sh) → move ws (M.close sh) ≡ pass → Done s (ws ∷ next sh n ∷ []) i (j + 1)
+  close-done sh n w p m =
+      seq (frame (next sh n ∷ []) (space-done w p m)) (eat-byte (next sh n) [] [] p (B.next-close (M.close sh) sh n refl))
+
+  comma-done : {i j k b e : ℕ} (sh : Shape) (n : ℕ) → Space s i j → At s j 44 → Space s (j + 1) k → At s k b → move ws b ≡ pass → Done s (before sh ++ inner sh n) k e → Done s (ws ∷ next sh n ∷ []) i e
+  unfolding move oneOf
+  comma-done sh n w o x p m r =
+      seq (frame (next sh n ∷ []) (space-done w o refl))
+      (seq (next-goes sh n (o .inside) (o .is)) (seq (frame (before sh ++ inner sh n) (space-done x p m)) r))
+
+quote-begins : (n b : ℕ) → b ≡ 34 → (k : List Item) → feed (value n ∷ k) b ≡ feed (byte 34 ∷ text ∷ k) b
+unfolding feed
+quote-begins n b e k =
+    ap (λ (m : Move). M.onto m k (feed k b)) (B.value-text b n e)
+    ∙ sym (ap (λ (m : Move). M.onto m (text ∷ k) (feed (text ∷ k) b)) (B.byte-is b 34 e))
+
+pub reads-done : {s : List ℕ} {p : Piece} {i e : ℕ} (n : ℕ) → Reads s p i e → deepness p ≤ n → Stopped s p e → Done s (owed n p) i e
+unfolding depth move oneOf
+reads-done n (a-null p) h c = word-done n 110 (117 ∷ 108 ∷ 108 ∷ []) p (B.value-null 110 n refl)
+reads-done n (a-true p) h c = word-done n 116 (114 ∷ 117 ∷ 101 ∷ []) p (B.value-true 116 n refl)
+reads-done n (a-false p) h c = word-done n 102 (97 ∷ 108 ∷ 115 ∷ 101 ∷ []) p (B.value-false 102 n refl)
+reads-done {s} {e = e} n (a-number p w) h c = eats-done (value n ∷ []) p (number-eat n w (drop e s) (c .calm))
+reads-done {s} n (a-string {i} p) h c =
+    seq (alike (value n ∷ []) (byte 34 ∷ text ∷ []) (p .opens .inside) (quote-begins n (getD s i 0) (p .opens .is))) (quoted-done p)
+reads-done zero (empty-list o w p) h c = absurd (omega arith)
+reads-done (suc n) (empty-list o w p) h c =
+    open-done a-list n 93 o w p refl (eat-byte (first a-list n) [] [] p (B.first-close 93 a-list n refl))
+reads-done zero (some-list o w r) h c = absurd (omega arith)
+reads-done (suc n) (some-list o w r) h c =
+    let v = elements-start r in
+    open-done a-list n (v .first) o w (v .at) (v .black) (enter-list n v (reads-done n r (omega arith) tt))
+reads-done n (element {t = t} {ts = ts} v r) h c =
+    seq (frame (ws ∷ next a-list n ∷ []) (reads-done n v (omega arith) (stop-rest r))) (reads-done n r (omega arith) tt)
+reads-done n (close-list w p) h c = close-done a-list n w p refl
+reads-done n (comma-list w o x r) h c =
+    let v = elements-start r in comma-done a-list n w o x (v .at) (v .black) (reads-done n r h tt)
+reads-done zero (empty-object o w p) h c = absurd (omega arith)
+reads-done (suc n) (empty-object o w p) h c =
+    open-done an-object n 125 o w p refl (eat-byte (first an-object n) [] [] p (B.first-close 125 an-object n refl))
+reads-done zero (some-object o w r) h c = absurd (omega arith)
+reads-done (suc n) (some-object o w r) h c =
+    let v = members-start r in open-done an-object n 34 o w v refl (enter-object n v (reads-done n r (omega arith) tt))
+reads-done n (member {t = t} {ms = ms} q w o x v r) h c =
+    let b = value-starts v in
+    seq (frame (ws ∷ byte 58 ∷ ws ∷ inner an-object n) (quoted-done q))
+    (seq (frame (byte 58 ∷ ws ∷ inner an-object n) (space-done w o refl))
+    (seq (eat-byte (byte 58) [] (ws ∷ inner an-object n) o (B.byte-is 58 58 refl))
+    (seq (frame (inner an-object n) (space-done x (b .at) (b .black)))
+    (seq (frame (ws ∷ next an-object n ∷ []) (reads-done n v (omega arith) (stop-more r))) (reads-done n r (omega arith) tt)))))
+reads-done n (close-object w p) h c = close-done an-object n w p refl
+reads-done n (comma-object w o x r) h c = comma-done an-object n w o x (members-start r) refl (reads-done n r h tt)
+
+-- a JSON text of at most n levels is whole for the twin
+pub text-complete : (n : ℕ) (s : List ℕ) → Text n s → verdictAt n s ≡ Whole
+unfolding verdictAt ends
+text-complete n s t =
+    let p = t .says in
+    let v = value-starts (p .reads) in
+    let w = space-done (p .before) (v .at) (v .black) in
+    let r = reads-done n (p .reads) (t .shallow) (stop-after (p .after)) in
+    seq (frame (value n ∷ ws ∷ []) w) (seq (frame (ws ∷ []) r) (space-end (p .after))) .goes [] ∙ from-empty [] s (length s) refl
