@@ -8,3 +8,7 @@ pub mod Eating
 pub mod Numbers
 pub mod Chars
 pub mod Complete
+pub mod Taking
+pub mod Quoting
+pub mod Sound
+pub mod Once

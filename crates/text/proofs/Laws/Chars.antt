@@ -77,7 +77,7 @@ backslash k r at =
     run-takes text k r at 92 (escape ∷ text ∷ [])
     (B.text-char 92 (omega arith) ∙ ap (λ (x : Move). owing x (text ∷ [])) (B.char-escape 92 refl))
 
-short-is : {x c : ℕ} → Short x c → move escape x ≡ go []
+pub short-is : {x c : ℕ} → Short x c → move escape x ≡ go []
 unfolding move oneOf
 short-is quote = refl
 short-is reverse-solidus = refl

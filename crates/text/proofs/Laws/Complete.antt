@@ -97,6 +97,10 @@ space-end (no-space h) = skips ws [] refl refl
 space-end {s} {i} (white q v r) =
     seq (takes ws [] (ws ∷ []) (q .inside) (ap (move ws) (q .is) ∙ white-moves v)) (space-end r)
 
+pub space-low : {s : List ℕ} {i e : ℕ} → Space s i e → i ≤ e
+space-low (no-space h) = omega arith
+space-low (white p v r) = let z = space-low r in omega arith
+
 -- ---- the first byte of a value
 
 pub record Starts (s : List ℕ) (i : ℕ) : Type 0 where

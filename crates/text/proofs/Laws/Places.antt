@@ -1,7 +1,7 @@
 -- Where the twin's items are done: at one place, and past the byte that they took.
 use mathlib.Core.Path.{_≡_, refl, sym, ap, _∙_, subst}
 use mathlib.Core.Bool.{Bool, true, false}
-use mathlib.Core.List.{List, [], _∷_, _++_, map}
+use mathlib.Core.List.{List, [], _∷_, _++_, map, append-nil}
 use Prim.Native.Nat.{ℕ, suc, _+_, _≤_, _<_}
 use native.Mathlib.Omega.{arith}
 use native.Mathlib.Decide.{decLt}
@@ -49,26 +49,26 @@ unfolding run feed ends
 own [] at = refl
 own (b ∷ bs) at = rw (byte-is b b refl) (own bs (at + 1))
 
--- the items are owed at a place, and with what is owed behind them the text is whole
+-- the text is whole, if the items are what is owed at a place
 pub record Alive (s : List ℕ) (xs : List Item) (at : ℕ) : Type 0 where
   pub high : at ≤ length s
-  pub stack : List Item
-  pub lives : from (xs ++ stack) s at ≡ Whole
+  pub lives : from xs s at ≡ Whole
 
 pub alive-fall : {s : List ℕ} {xs : List Item} {a : ℕ} {v : Verdict} → Alive s xs a → Falls s xs a v → ⊥
-alive-fall {v = v} l f = not-whole v (f .fault) (sym (f .goes (l .stack)) ∙ l .lives)
+alive-fall {s} {xs} {a} {v} l f =
+    not-whole v (f .fault) (sym (f .goes []) ∙ ap (λ (k : List Item). from k s a) (append-nil xs) ∙ l .lives)
 
 pub alive-seq : {s : List ℕ} {xs ys : List Item} {a b : ℕ} → Alive s xs a → Leads s xs a ys b → Alive s ys b
-alive-seq l p = record { high = p .high; stack = l .stack; lives = sym (p .goes (l .stack)) ∙ l .lives }
+alive-seq {s} {xs} {ys} {a} {b} l p =
+    record {
+      high = p .high;
+      lives = ap (λ (k : List Item). from k s b) (sym (append-nil ys)) ∙ sym (p .goes []) ∙ ap (λ (k : List Item). from k s a) (append-nil xs) ∙ l .lives;
+    }
 
-pub done-alive : {s : List ℕ} {xs : List Item} {i n : ℕ} → Done s xs i n → Alive s xs i
+pub done-alive : {s : List ℕ} {xs : List Item} {i n : ℕ} → Done s xs i n → Alive s (xs ++ map byte (drop n s)) i
 unfolding from
 done-alive {s} {xs} {i} {n} p =
-    record {
-      high = omega (arith, p .low, p .high);
-      stack = map byte (drop n s);
-      lives = p .goes (map byte (drop n s)) ∙ own (drop n s) n;
-    }
+    record { high = omega (arith, p .low, p .high); lives = p .goes (map byte (drop n s)) ∙ own (drop n s) n }
 
 -- an item that may not be left out stands inside the text
 pub alive-inside : {s : List ℕ} {i : ℕ} (x : Item) (ys : List Item) → optional x ≡ false → Alive s (x ∷ ys) i → i < length s
@@ -102,13 +102,13 @@ past-end s i h = from-cons [] s i h
 
 pub done-grows : {s : List ℕ} {i n : ℕ} (x : Item) → optional x ≡ false → ((b : ℕ) → Firm (move x b)) → Done s (x ∷ []) i n → i < n
 unfolding Firm from
-done-grows {s} {i} {n} x o f p = by (alive-inside x [] o (done-alive p)) (move x (getD s i 0)) refl (f (getD s i 0)) (decLt i n)
+done-grows {s} {i} {n} x o f p = by (alive-inside x (map byte (drop n s)) o (done-alive p)) (move x (getD s i 0)) refl (f (getD s i 0)) (decLt i n)
   where
     by : i < length s → (m : Move) → move x (getD s i 0) ≡ m → Firm m → Dec (i < n) → i < n
     by h m e g (yes q) = q
     by h pass e g (no q) = absurd g
-    by h bad e g (no q) = absurd (alive-fall (done-alive p) (refuses x [] h e))
-    by h deep e g (no q) = absurd (alive-fall (done-alive p) (sinks x [] h e))
+    by h bad e g (no q) = absurd (alive-fall (done-alive p) (refuses x (map byte (drop n s)) h e))
+    by h deep e g (no q) = absurd (alive-fall (done-alive p) (sinks x (map byte (drop n s)) h e))
     by h (go xs) e g (no q) =
         let same : i ≡ n = omega (arith, p .low) in
         let there = sym (takes x [] xs h e .goes []) ∙ p .goes [] ∙ ap (from [] s) (sym same) ∙ past-end s i h in
