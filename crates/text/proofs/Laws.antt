@@ -12,3 +12,9 @@ pub mod Taking
 pub mod Quoting
 pub mod Sound
 pub mod Once
+pub mod Live
+pub mod Levels
+pub mod Stable
+pub mod Verdict
+pub mod Contents
+pub mod Meaning

@@ -4,5 +4,6 @@ pub mod Utf8
 pub mod Strings
 pub mod Json
 pub mod Verdicts
+pub mod Contents
 pub mod Machine
 pub mod Reading

@@ -1,7 +1,7 @@
 -- What the scan's answer means: document 01, "Numbered refusals", the paragraph on places and levels.
 --   Begins n bs    the bytes bs are the beginning of some JSON text of at most n levels
 --   Means s v      the verdict v is the right one on the text s
--- Differs from 01: nowhere.  Pinned by: Laws/Verdict, where `verdict-means` and `verdict-unique` stand.
+-- Differs from 01: nowhere.  Pinned by: `verdict-means` and `verdict-unique` of Laws/Meaning.
 use mathlib.Core.Path.{_≡_}
 use mathlib.Core.List.{List, _++_}
 use Prim.Native.Nat.{ℕ, _+_, _≤_, _<_}

@@ -9,7 +9,7 @@ ghost use Rattle.text.specs.Machine.{ws, byte, range, hex, text, char, e
 ghost use Rattle.text.specs.Reading.{Done, Goes, Begins, Opens, Follows};
 
 // Levels that a text may open.
-const LEVELS: usize = 16;
+pub const LEVELS: usize = 16;
 
 // What a text is.
 pub enum Verdict {

@@ -16,7 +16,8 @@ pub fn shape(symbols: &[u32]) -> Shape {
 }
 
 /// Turns the characters from `start` on into symbols: wildcards where the
-/// field has them, and the plain character for each of the three escapes.
+/// field has them, and the plain character for each of the three escapes. In
+/// an Action an escape cannot stand, but neither can the character it leaves.
 pub fn resolve(store: &mut Vec<u32>, start: usize, field: Field) -> Result<(), Mismatch> {
     let special = |&c: &u32| matches!(c, 0x24 | 0x2A | 0x3F);
     let Some(first) = store[start..].iter().position(special) else {
@@ -26,7 +27,7 @@ pub fn resolve(store: &mut Vec<u32>, start: usize, field: Field) -> Result<(), M
     // Symbols never outnumber the characters read, so both share the store.
     let (mut from, mut to) = (start + first, start + first);
     while from < store.len() {
-        let (symbol, used) = symbol_at(&store[from..], field, has_wildcards)?;
+        let (symbol, used) = symbol_at(&store[from..], has_wildcards)?;
         store[to] = symbol;
         from += used;
         to += 1;
@@ -36,14 +37,13 @@ pub fn resolve(store: &mut Vec<u32>, start: usize, field: Field) -> Result<(), M
 }
 
 /// The next symbol and the number of characters that it takes.
-fn symbol_at(rest: &[u32], field: Field, has_wildcards: bool) -> Result<(u32, usize), Mismatch> {
+fn symbol_at(rest: &[u32], has_wildcards: bool) -> Result<(u32, usize), Mismatch> {
     const OPEN: [u32; 2] = [b'$' as u32, b'{' as u32];
     const CLOSE: u32 = b'}' as u32;
     match rest {
         [0x2A, ..] if has_wildcards => Ok((ANY_RUN, 1)),
         [0x3F, ..] if has_wildcards => Ok((ANY_ONE, 1)),
-        // Actions have no escapes: the brace is no character of theirs.
-        _ if field == Field::Action || !rest.starts_with(&OPEN) => Ok((rest[0], 1)),
+        _ if !rest.starts_with(&OPEN) => Ok((rest[0], 1)),
         [_, _, plain @ (0x24 | 0x2A | 0x3F), CLOSE, ..] => Ok((*plain, 4)),
         _ => Err(Mismatch::Layout),
     }

@@ -7,14 +7,15 @@ use native.Mathlib.Omega.{arith}
 use native.Mathlib.Numerals.{sub-one}
 use native.Mathlib.Decide.{decLt}
 use types.Run.{OneOf}
-use mathlib.Core.Logic.{⊎-elim}
+use mathlib.Core.Logic.{_⊎_, inl, inr, ⊎-elim}
 use lib.ListN.{length, getD, drop}
 use lib.Seq.{drop-cons, drop-length}
 use Rattle.text.specs.Base.{In, At, oneOf}
 use Rattle.text.specs.Json.{Json, Values, Members, no-more, also, no-members, named, null, bool, number, string, list, object, depth, depths, depthm, White, tab, line-feed, carriage-return, space, Space, no-space, white, Int, zero, from-1-9, Number, unsigned, negative, Spelt, Quoted, Piece, a-value, elements, rest, members, more, Reads, a-null, a-true, a-false, a-number, a-string, empty-list, some-list, element, close-list, comma-list, empty-object, some-object, member, close-object, comma-object}
+use Rattle.text.specs.Contents.{Ends, with-text, before}
 use Rattle.text.specs.Verdicts.{Text}
 use Rattle.text.specs.declared.scan.Verdict.the-variants.{Whole}
-use Rattle.text.specs.Machine.{Item, Move, pass, go, ws, byte, text, value, first, next, before, inner, opens, move, optional, from, run, feed, ends, verdictAt}
+use Rattle.text.specs.Machine.{Item, Move, pass, go, ws, byte, text, value, first, next, inner, opens, move, optional, from, run, feed, ends, verdictAt}
 use Rattle.text.specs.Machine as M
 use Rattle.text.specs.Reading.{Leads, Done}
 use Rattle.text.specs.declared.scan.Shape.{Shape}
@@ -27,53 +28,56 @@ use Rattle.text.proofs.Laws.Numbers.{number-eat}
 use Rattle.text.proofs.Laws.Chars.{text-eat}
 use Rattle.text.proofs.Laws.Moves as B
 
--- ---- what stops a number or white space
+-- ---- what stops a number
 
--- no number goes on at a place
-pub record Stop (s : List ℕ) (e : ℕ) : Type 0 where
-  pub calm : Calm (drop e s)
-
-calm-byte : (s : List ℕ) (e b : ℕ) → At s e b → move M.digits b ≡ pass → move M.fraction b ≡ pass → move M.exponent b ≡ pass → Stop s e
-unfolding Passed
-calm-byte s e b p d f x =
-    record {
-      calm = subst Calm (sym (drop-cons s e 0 (p .inside)))
-          record {
-            on-digits = ap (move M.digits) (p .is) ∙ d;
-            on-fraction = ap (move M.fraction) (p .is) ∙ f;
-            on-exponent = ap (move M.exponent) (p .is) ∙ x;
-          };
-    }
-
-pub stop-end : (s : List ℕ) → Stop s (length s)
+-- where a number ends, the twin's items for more of it are done
+ends-calm : {s : List ℕ} {e : ℕ} → Ends s e → Calm (drop e s)
 unfolding Passed optional
-stop-end s = record { calm = subst Calm (sym (drop-length s)) record { on-digits = refl; on-fraction = refl; on-exponent = refl } }
+ends-calm {s} {e} (with-text q) =
+    subst Calm (sym (ap (λ (n : ℕ). drop n s) q ∙ drop-length s)) record { on-digits = refl; on-fraction = refl; on-exponent = refl }
+ends-calm {s} {e} (before {b} p n f u l) =
+    subst Calm (sym (drop-cons s e 0 (p .inside)))
+    record {
+      on-digits = ap (move M.digits) (p .is) ∙ by (decLt b 48);
+      on-fraction = ap (move M.fraction) (p .is) ∙ B.fraction-not b f ∙ B.exponent-not b (⊎-elim u l);
+      on-exponent = ap (move M.exponent) (p .is) ∙ B.exponent-not b (⊎-elim u l);
+    }
+  where
+    by : Dec (b < 48) → move M.digits b ≡ pass
+    by (yes h) = B.digits-under b h
+    by (no h) = B.digits-over b (over (decLt 57 b))
+      where
+        over : Dec (57 < b) → 57 < b
+        over (yes g) = g
+        over (no g) = absurd (n (record { low = omega arith; high = omega arith }))
 
-stop-white : {s : List ℕ} {e b : ℕ} → At s e b → White b → Stop s e
-unfolding move oneOf
-stop-white {s} {e} p tab = calm-byte s e 9 p refl refl refl
-stop-white {s} {e} p line-feed = calm-byte s e 10 p refl refl refl
-stop-white {s} {e} p carriage-return = calm-byte s e 13 p refl refl refl
-stop-white {s} {e} p space = calm-byte s e 32 p refl refl refl
+ends-byte : {s : List ℕ} {e : ℕ} (b : ℕ) → At s e b → (b < 46 ⊎ 101 < b) ⊎ (b ≡ 93) → Ends s e
+ends-byte b p (inl (inl h)) = before p (λ i. let z = i .low in omega arith) (omega arith) (omega arith) (omega arith)
+ends-byte b p (inl (inr h)) = before p (λ i. let z = i .high in omega arith) (omega arith) (omega arith) (omega arith)
+ends-byte b p (inr h) = before p (λ i. let z = i .high in omega arith) (omega arith) (omega arith) (omega arith)
 
--- a byte of structure stops a number, with white space before it or without
-stop-space : {s : List ℕ} {i e b : ℕ} → Space s i e → At s e b → move M.digits b ≡ pass → move M.fraction b ≡ pass → move M.exponent b ≡ pass → Stop s i
-stop-space {s} {i} {e} {b} (no-space h) p d f x = calm-byte s i b p d f x
-stop-space (white q v r) p d f x = stop-white q v
+ends-white : {s : List ℕ} {e b : ℕ} → At s e b → White b → Ends s e
+ends-white p tab = ends-byte 9 p (inl (inl (omega arith)))
+ends-white p line-feed = ends-byte 10 p (inl (inl (omega arith)))
+ends-white p carriage-return = ends-byte 13 p (inl (inl (omega arith)))
+ends-white p space = ends-byte 32 p (inl (inl (omega arith)))
 
-pub stop-rest : {s : List ℕ} {i e : ℕ} {ts : Values} → Reads s (rest ts) i e → Stop s i
-unfolding move oneOf
-stop-rest (close-list w o) = stop-space w o refl refl refl
-stop-rest (comma-list w o x r) = stop-space w o refl refl refl
+-- a byte of structure ends a number, with white space before it or without
+ends-space : {s : List ℕ} {i e : ℕ} (b : ℕ) → (b < 46 ⊎ 101 < b) ⊎ (b ≡ 93) → Space s i e → At s e b → Ends s i
+ends-space b h (no-space g) p = ends-byte b p h
+ends-space b h (white q v r) p = ends-white q v
 
-pub stop-more : {s : List ℕ} {i e : ℕ} {ms : Members} → Reads s (more ms) i e → Stop s i
-unfolding move oneOf
-stop-more (close-object w o) = stop-space w o refl refl refl
-stop-more (comma-object w o x r) = stop-space w o refl refl refl
+pub ends-rest : {s : List ℕ} {i e : ℕ} {ts : Values} → Reads s (rest ts) i e → Ends s i
+ends-rest (close-list w o) = ends-space 93 (inr refl) w o
+ends-rest (comma-list w o x r) = ends-space 44 (inl (inl (omega arith))) w o
 
-pub stop-after : {s : List ℕ} {i : ℕ} → Space s i (length s) → Stop s i
-stop-after {s} (no-space h) = stop-end s
-stop-after (white p v r) = stop-white p v
+pub ends-more : {s : List ℕ} {i e : ℕ} {ms : Members} → Reads s (more ms) i e → Ends s i
+ends-more (close-object w o) = ends-space 125 (inl (inr (omega arith))) w o
+ends-more (comma-object w o x r) = ends-space 44 (inl (inl (omega arith))) w o
+
+pub ends-after : {s : List ℕ} {i : ℕ} → Space s i (length s) → Ends s i
+ends-after (no-space h) = with-text refl
+ends-after (white p v r) = ends-white p v
 
 -- ---- white space
 
@@ -150,7 +154,7 @@ abbrev pub owed : ℕ → Piece → List Item
 owed n (a-value t) = value n ∷ []
 owed n (elements ts) = inner a-list n
 owed n (rest ts) = ws ∷ next a-list n ∷ []
-owed n (members ms) = before an-object ++ inner an-object n
+owed n (members ms) = M.before an-object ++ inner an-object n
 owed n (more ms) = ws ∷ next an-object n ∷ []
 
 abbrev pub deepness : Piece → ℕ
@@ -162,22 +166,22 @@ deepness (more ms) = depthm ms
 
 -- a value is done only where no number goes on
 abbrev pub Stopped : List ℕ → Piece → ℕ → Type 0
-Stopped s (a-value t) e = Stop s e
+Stopped s (a-value t) e = Ends s e
 Stopped s (elements ts) e = Unit {0}
 Stopped s (rest ts) e = Unit {0}
 Stopped s (members ms) e = Unit {0}
 Stopped s (more ms) e = Unit {0}
 
-pub quoted-done : {s w : List ℕ} {i e : ℕ} → Quoted s w i e → Done s (byte 34 ∷ text ∷ []) i e
+-- a string's rest behind its opening quote
+pub body-done : {s w : List ℕ} {i e : ℕ} → Quoted s w i e → Done s (text ∷ []) (i + 1) e
 unfolding from
-quoted-done {s} {w} {i} {e} p =
+body-done {s} {w} {i} {e} p =
     let l = spelt-length (p .spelt) in
     let q = p .close in
     let h = p .closes .inside in
     let z = p .past in
     let there : i + 1 + length w + 1 ≡ e = omega arith in
     let past : suc q ≡ e = omega arith in
-    seq (takes (byte 34) (text ∷ []) [] (p .opens .inside) (B.byte-is (getD s i 0) 34 (p .opens .is)))
     record {
       low = omega (arith, p .spelt .order);
       high = omega arith;
@@ -186,6 +190,10 @@ quoted-done {s} {w} {i} {e} p =
           ∙ ap (run k (drop (suc q) s)) there
           ∙ ap (λ (n : ℕ). run k (drop n s) e) past;
     }
+
+pub quoted-done : {s w : List ℕ} {i e : ℕ} → Quoted s w i e → Done s (byte 34 ∷ text ∷ []) i e
+quoted-done {s} {w} {i} p =
+    seq (takes (byte 34) (text ∷ []) [] (p .opens .inside) (B.byte-is (getD s i 0) 34 (p .opens .is))) (body-done p)
 
 module _ {s : List ℕ} where
   eat-byte : {i b : ℕ} (x : Item) (xs ys : List Item) → At s i b → move x b ≡ go xs → Leads s (x ∷ ys) i (xs ++ ys) (i + 1)
@@ -206,20 +214,20 @@ module _ {s : List ℕ} where
   enter-list {i} n v r =
       seq (alike (first a-list n ∷ []) (inner a-list n) (v .at .inside) (B.first-enters (getD s i 0) a-list n (λ z. v .inner (sym (v .at .is) ∙ z)))) r
 
-  enter-object : {i e : ℕ} (n : ℕ) → At s i 34 → Done s (before an-object ++ inner an-object n) i e → Done s (first an-object n ∷ []) i e
+  enter-object : {i e : ℕ} (n : ℕ) → At s i 34 → Done s (M.before an-object ++ inner an-object n) i e → Done s (first an-object n ∷ []) i e
   enter-object {i} n p r =
       let z = p .is in
-      seq (alike (first an-object n ∷ []) (before an-object ++ inner an-object n) (p .inside) (B.first-enters (getD s i 0) an-object n (omega arith))) r
+      seq (alike (first an-object n ∷ []) (M.before an-object ++ inner an-object n) (p .inside) (B.first-enters (getD s i 0) an-object n (omega arith))) r
 
   close-done : {i j : ℕ} (sh : Shape) (n : ℕ) → Space s i j → At s j (M.close sh) → move ws (M.close sh) ≡ pass → Done s (ws ∷ next sh n ∷ []) i (j + 1)
   close-done sh n w p m =
       seq (frame (next sh n ∷ []) (space-done w p m)) (eat-byte (next sh n) [] [] p (B.next-close (M.close sh) sh n refl))
 
-  comma-done : {i j k b e : ℕ} (sh : Shape) (n : ℕ) → Space s i j → At s j 44 → Space s (j + 1) k → At s k b → move ws b ≡ pass → Done s (before sh ++ inner sh n) k e → Done s (ws ∷ next sh n ∷ []) i e
+  comma-done : {i j k b e : ℕ} (sh : Shape) (n : ℕ) → Space s i j → At s j 44 → Space s (j + 1) k → At s k b → move ws b ≡ pass → Done s (M.before sh ++ inner sh n) k e → Done s (ws ∷ next sh n ∷ []) i e
   unfolding move oneOf
   comma-done sh n w o x p m r =
       seq (frame (next sh n ∷ []) (space-done w o refl))
-      (seq (next-goes sh n (o .inside) (o .is)) (seq (frame (before sh ++ inner sh n) (space-done x p m)) r))
+      (seq (next-goes sh n (o .inside) (o .is)) (seq (frame (M.before sh ++ inner sh n) (space-done x p m)) r))
 
 quote-begins : (n b : ℕ) → b ≡ 34 → (k : List Item) → feed (value n ∷ k) b ≡ feed (byte 34 ∷ text ∷ k) b
 unfolding feed
@@ -232,7 +240,7 @@ unfolding depth move oneOf
 reads-done n (a-null p) h c = word-done n 110 (117 ∷ 108 ∷ 108 ∷ []) p (B.value-null 110 n refl)
 reads-done n (a-true p) h c = word-done n 116 (114 ∷ 117 ∷ 101 ∷ []) p (B.value-true 116 n refl)
 reads-done n (a-false p) h c = word-done n 102 (97 ∷ 108 ∷ 115 ∷ 101 ∷ []) p (B.value-false 102 n refl)
-reads-done {s} {e = e} n (a-number p w) h c = eats-done (value n ∷ []) p (number-eat n w (drop e s) (c .calm))
+reads-done {s} {e = e} n (a-number p w) h c = eats-done (value n ∷ []) p (number-eat n w (drop e s) (ends-calm c))
 reads-done {s} n (a-string {i} p) h c =
     seq (alike (value n ∷ []) (byte 34 ∷ text ∷ []) (p .opens .inside) (quote-begins n (getD s i 0) (p .opens .is))) (quoted-done p)
 reads-done zero (empty-list o w p) h c = absurd (omega arith)
@@ -243,7 +251,7 @@ reads-done (suc n) (some-list o w r) h c =
     let v = elements-start r in
     open-done a-list n (v .first) o w (v .at) (v .black) (enter-list n v (reads-done n r (omega arith) tt))
 reads-done n (element {t = t} {ts = ts} v r) h c =
-    seq (frame (ws ∷ next a-list n ∷ []) (reads-done n v (omega arith) (stop-rest r))) (reads-done n r (omega arith) tt)
+    seq (frame (ws ∷ next a-list n ∷ []) (reads-done n v (omega arith) (ends-rest r))) (reads-done n r (omega arith) tt)
 reads-done n (close-list w p) h c = close-done a-list n w p refl
 reads-done n (comma-list w o x r) h c =
     let v = elements-start r in comma-done a-list n w o x (v .at) (v .black) (reads-done n r h tt)
@@ -259,7 +267,7 @@ reads-done n (member {t = t} {ms = ms} q w o x v r) h c =
     (seq (frame (byte 58 ∷ ws ∷ inner an-object n) (space-done w o refl))
     (seq (eat-byte (byte 58) [] (ws ∷ inner an-object n) o (B.byte-is 58 58 refl))
     (seq (frame (inner an-object n) (space-done x (b .at) (b .black)))
-    (seq (frame (ws ∷ next an-object n ∷ []) (reads-done n v (omega arith) (stop-more r))) (reads-done n r (omega arith) tt)))))
+    (seq (frame (ws ∷ next an-object n ∷ []) (reads-done n v (omega arith) (ends-more r))) (reads-done n r (omega arith) tt)))))
 reads-done n (close-object w p) h c = close-done an-object n w p refl
 reads-done n (comma-object w o x r) h c = comma-done an-object n w o x (members-start r) refl (reads-done n r h tt)
 
@@ -270,5 +278,5 @@ text-complete n s t =
     let p = t .says in
     let v = value-starts (p .reads) in
     let w = space-done (p .before) (v .at) (v .black) in
-    let r = reads-done n (p .reads) (t .shallow) (stop-after (p .after)) in
+    let r = reads-done n (p .reads) (t .shallow) (ends-after (p .after)) in
     seq (frame (value n ∷ ws ∷ []) w) (seq (frame (ws ∷ []) r) (space-end (p .after))) .goes [] ∙ from-empty [] s (length s) refl

@@ -9,10 +9,11 @@ use lib.ListN.{length, getD}
 use borrow.Author.Tests.{eq-eqb, ne-eqb}
 use Rattle.text.specs.Base.{pick, At, part, oneOf}
 use Rattle.text.specs.Json.{Json, Values, Members, no-more, also, no-members, named, null, bool, number, string, list, object, depth, Space, Number, unsigned, negative, Int, zero, from-1-9, Spelt, Quoted, Piece, a-value, elements, rest, members, more, Reads, a-null, a-true, a-false, a-number, a-string, empty-list, some-list, element, close-list, comma-list, empty-object, some-object, member, close-object, comma-object, JsonText}
+use Rattle.text.specs.Contents.{Ends}
 use Rattle.text.specs.Machine.{pass, ws, byte, text, value, move}
 use Rattle.text.proofs.Laws.Places.{done-unique}
 use Rattle.text.proofs.Laws.Parts.{spelt-first}
-use Rattle.text.proofs.Laws.Complete.{Stop, Stopped, stop-rest, stop-more, stop-after, space-done, quoted-done, Starts, value-starts, elements-start, members-start, reads-done}
+use Rattle.text.proofs.Laws.Complete.{Stopped, ends-rest, ends-more, ends-after, space-done, quoted-done, Starts, value-starts, elements-start, members-start, reads-done}
 
 clash : {s : List ℕ} {i x y : ℕ} → At s i x → At s i y → x ≡ y
 clash p q = sym (p .is) ∙ q .is
@@ -114,7 +115,7 @@ pub record Same (A : Type 0) (x y : A) (e f : ℕ) : Type 0 where
   pub stop : e ≡ f
 
 abbrev pub Once : List ℕ → Piece → ℕ → ℕ → Type 0
-Once s (a-value t) i e = (u : Json) (f : ℕ) → Reads s (a-value u) i f → Stop s f → Same Json t u e f
+Once s (a-value t) i e = (u : Json) (f : ℕ) → Reads s (a-value u) i f → Ends s f → Same Json t u e f
 Once s (elements t) i e = (u : Values) (f : ℕ) → Reads s (elements u) i f → Same Values t u e f
 Once s (rest t) i e = (u : Values) (f : ℕ) → Reads s (rest u) i f → Same Values t u e f
 Once s (members t) i e = (u : Members) (f : ℕ) → Reads s (members u) i f → Same Members t u e f
@@ -124,7 +125,7 @@ Once s (more t) i e = (u : Members) (f : ℕ) → Reads s (more u) i f → Same 
 moved : {s : List ℕ} {i j e : ℕ} (p : Piece) → i ≡ j → Reads s p i e → Reads s p j e
 moved {s} {i} {j} {e} p q r = subst (λ (k : ℕ). Reads s p k e) q r
 
-leaf-once : {s : List ℕ} {i e : ℕ} {t : Json} → Opens s i → depth t ≡ 0 → Reads s (a-value t) i e → Stop s e → (u : Json) (f : ℕ) → Reads s (a-value u) i f → Stop s f → depth u ≡ 0 → Same Json t u e f
+leaf-once : {s : List ℕ} {i e : ℕ} {t : Json} → Opens s i → depth t ≡ 0 → Reads s (a-value t) i e → Ends s e → (u : Json) (f : ℕ) → Reads s (a-value u) i f → Ends s f → depth u ≡ 0 → Same Json t u e f
 leaf-once {s} {i} {e} o z r c u f q d y =
     let k = done-unique (value 0 ∷ []) (reads-done 0 r (omega arith) c) (reads-done 0 q (omega arith) d) in
     record { what = leaf-is o r ∙ ap (leafOf s i) k ∙ sym (leaf-is o q); stop = k }
@@ -142,7 +143,7 @@ leaf-flat o (some-list p w r) = absurd (o .no-list (p .is))
 leaf-flat o (empty-object p w c) = absurd (o .no-object (p .is))
 leaf-flat o (some-object p w r) = absurd (o .no-object (p .is))
 
-flat-once : {s : List ℕ} {i e : ℕ} {t : Json} → Opens s i → Reads s (a-value t) i e → Stop s e → Once s (a-value t) i e
+flat-once : {s : List ℕ} {i e : ℕ} {t : Json} → Opens s i → Reads s (a-value t) i e → Ends s e → Once s (a-value t) i e
 flat-once o r c u f q d = leaf-once o (leaf-flat o r) r c u f q d (leaf-flat o q)
 
 module _ {s : List ℕ} where
@@ -197,7 +198,7 @@ module _ {s : List ℕ} where
 
   element-once : {i j e : ℕ} {t : Json} {ts : Values} → Once s (a-value t) i j → Once s (rest ts) j e → Once s (elements (also t ts)) i e
   element-once {i} {j} {e} {t} {ts} on go u f (element {j = k} {t = v} {ts = vs} p q) =
-      let m = on v k p (stop-rest q) in
+      let m = on v k p (ends-rest q) in
       let n = go vs f (moved (rest vs) (sym (m .stop)) q) in
       record { what = ap (λ (x : Json). also x ts) (m .what) ∙ ap (also v) (n .what); stop = n .stop }
 
@@ -249,7 +250,7 @@ module _ {s : List ℕ} where
       let g = space-once (subst (λ (k : ℕ). Space s k c′) (d .stop) x′) o′ refl x o refl in
       let a = value-starts r in
       let h = space-once (subst (λ (k : ℕ). Space s (k + 1) v′) g y′) (a .at) (a .black) y (b .at) (b .black) in
-      let m = on t′ j′ (moved (a-value t′) h r) (stop-more p) in
+      let m = on t′ j′ (moved (a-value t′) h r) (ends-more p) in
       let z = go ms′ f (moved (more ms′) (sym (m .stop)) p) in
       record {
         what = ap (λ (k : List ℕ). named k t ms) (sym (d .what)) ∙ ap (λ (k : Json). named w′ k ms) (m .what) ∙ ap (named w′ t′) (z .what);
@@ -264,12 +265,12 @@ once (a-number p n) c = flat-once (number-opens n p) (a-number p n) c
 once (a-string p) c = flat-once (opens-not 34 (p .opens) (omega arith) (omega arith)) (a-string p) c
 once (empty-list o w p) c = empty-list-once o w p
 once (some-list o w r) c = some-list-once o w r (once r tt)
-once (element v r) c = element-once (once v (stop-rest r)) (once r tt)
+once (element v r) c = element-once (once v (ends-rest r)) (once r tt)
 once (close-list w p) c = close-list-once w p
 once (comma-list w o x r) c = comma-list-once w o x r (once r tt)
 once (empty-object o w p) c = empty-object-once o w p
 once (some-object o w r) c = some-object-once o w r (once r tt)
-once (member q w o x v r) c = member-once q w o x (value-starts v) (once v (stop-more r)) (once r tt)
+once (member q w o x v r) c = member-once q w o x (value-starts v) (once v (ends-more r)) (once r tt)
 once (close-object w p) c = close-object-once w p
 once (comma-object w o x r) c = comma-object-once w o x r (once r tt)
 
@@ -279,4 +280,4 @@ text-unique s t u p q =
     let a = value-starts (p .reads) in
     let b = value-starts (q .reads) in
     let z = space-once (q .before) (b .at) (b .black) (p .before) (a .at) (a .black) in
-    once (p .reads) (stop-after (p .after)) u (q .past) (moved (a-value u) z (q .reads)) (stop-after (q .after)) .what
+    once (p .reads) (ends-after (p .after)) u (q .past) (moved (a-value u) z (q .reads)) (ends-after (q .after)) .what

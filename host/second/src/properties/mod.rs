@@ -3,10 +3,12 @@
 //! Each check answers what went wrong, with enough to see the case again.
 
 mod damaged;
+mod programs;
 mod rows;
 mod scans;
 mod sound;
 
+pub use programs::program_agrees;
 pub use rows::damaged_rooms_are_refused;
 pub use scans::scans_agree;
 
@@ -27,11 +29,13 @@ pub fn check_seed(implementation: &dyn Implementation, seed: u64) -> Check {
     checks.map_err(|trouble| format!("seed {seed}: {trouble}"))
 }
 
-/// Runs also what only this crate promises: its JSON scan and its rows.
+/// Runs also what is this crate's own: its JSON scan, its rows, its program.
 pub fn check_second(seed: u64) -> Check {
     check_seed(&crate::implementation::Second, seed)?;
     let mut random = Random::new(!seed);
-    let checks = scans_agree(&mut random).and_then(|()| damaged_rooms_are_refused(&mut random));
+    let checks = scans_agree(&mut random)
+        .and_then(|()| damaged_rooms_are_refused(&mut random))
+        .and_then(|()| program_agrees(&mut random));
     checks.map_err(|trouble| format!("seed {seed}: {trouble}"))
 }
 

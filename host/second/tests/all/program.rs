@@ -115,15 +115,21 @@ fn start(directory: &std::path::Path, input: &[u8]) -> String {
 #[test]
 fn started() {
     let directory = std::path::Path::new(env!("CARGO_TARGET_TMPDIR")).join("started");
+    // An interrupted run may have left the directory behind.
+    let _ = std::fs::remove_dir_all(&directory);
     std::fs::create_dir_all(&directory).unwrap();
     let file = directory.join("policy.json");
-    if file.exists() {
-        std::fs::remove_file(&file).unwrap();
-    }
     assert_eq!(start(&directory, b"{}\n"), "no policy\n");
     std::fs::write(&file, GATE).unwrap();
     let input = format!("{}\n{{\n{}", gate("north/é1"), gate("north/é2"));
     assert_eq!(start(&directory, input.as_bytes()), EXAMPLE_OUTPUT);
     std::fs::write(&file, padded(GATE, 40_000)).unwrap();
     assert_eq!(start(&directory, input.as_bytes()), "refused 2 at 0\n");
+    // An empty file is a policy, though refused; what cannot be read is none.
+    std::fs::write(&file, "").unwrap();
+    assert_eq!(start(&directory, b""), "refused 3 at 0\n");
+    std::fs::remove_file(&file).unwrap();
+    std::fs::create_dir(&file).unwrap();
+    assert_eq!(start(&directory, b""), "no policy\n");
+    std::fs::remove_dir(&file).unwrap();
 }

@@ -1,0 +1,167 @@
+// A walk over a text known to be whole, in place: each function promises which piece of the tree stands where.
+ghost use mathlib.Core.Path.{_≡_};
+ghost use Prim.Native.Nat.{ℕ};
+ghost use mathlib.Core.List.{List};
+ghost use Rattle.text.specs.Json.{Json, Values, Members, list, object, string};
+ghost use Rattle.text.specs.Machine.{verdict};
+ghost use Rattle.text.specs.Contents.{Stands, Rest, Others, Standing, StandingText, StandingList, StandingObject, Resting, Continuing, kindOf, Raw, Comes, Leads, Rooted, Entry, Entering};
+ghost use Rattle.text.specs.declared.scan.Verdict.the-variants.{Whole};
+use crate::scan;
+use crate::scan::Part;
+
+// What kind of value stands at a place.
+pub enum Kind {
+    Null,
+    True,
+    False,
+    Number,
+    Text,
+    List,
+    Object,
+}
+
+// What stands between the two quotes of a string: from one place up to another.
+pub struct Span {
+    pub from: usize,
+    pub to: usize,
+}
+
+// An element of a list, or the place past the list.
+pub enum Element {
+    At(usize),
+    Past(usize),
+}
+
+// A member of an object: its name stands from `name` up to `end`, its value at `value`; or the place past the object.
+pub enum Member {
+    Named {
+        name: usize,
+        end: usize,
+        value: usize,
+    },
+    Past(usize),
+}
+
+// The place of the value of a whole text.
+pub fn root(s: &[u8]) -> usize
+    requires { ⌜ verdict (now s) ≡ Whole ⌝ }
+    ensures { λ r. ⌜ Rooted (now (s .entry)) r ⌝ }
+{
+    scan::space(s, 0)
+}
+
+// The place past the value that stands at a place.
+pub fn past_value(s: &[u8], v: usize) -> usize
+    requires { ⌜ Standing (now s) v ⌝ }
+    ensures { λ r. ⌜ ((t : Json) (e : ℕ) → Stands (now (s .entry)) t v e → r ≡ e) ⌝ }
+{
+    let r = scan::value(s, v, scan::LEVELS);
+    match r {
+        Part::Past(e) => e,
+        Part::Fails(_) => v,
+    }
+}
+
+// The kind of the value that stands at a place, told by its first byte.
+pub fn kind_at(s: &[u8], v: usize) -> Kind
+    requires { ⌜ Standing (now s) v ⌝ }
+    ensures { λ r. ⌜ ((t : Json) (e : ℕ) → Stands (now (s .entry)) t v e → r ≡ kindOf t) ⌝ }
+{
+    let b = s[v];
+    match b {
+        34 => Kind::Text,
+        91 => Kind::List,
+        102 => Kind::False,
+        110 => Kind::Null,
+        116 => Kind::True,
+        123 => Kind::Object,
+        _ => Kind::Number,
+    }
+}
+
+// The raw part of the string that stands at a place.
+pub fn quoted(s: &[u8], v: usize) -> Span
+    requires { ⌜ StandingText (now s) v ⌝ }
+    ensures { λ r. ⌜ ((w : List ℕ) (e : ℕ) → Stands (now (s .entry)) (string w) v e → Raw (now (s .entry)) w e r) ⌝ }
+{
+    let from = v + 1;
+    let r = scan::string(s, from);
+    match r {
+        Part::Past(q) => Span {
+            from: from,
+            to: q - 1,
+        },
+        Part::Fails(_) => Span {
+            from: from,
+            to: from,
+        },
+    }
+}
+
+// The first element of the list that stands at a place.
+pub fn first_element(s: &[u8], v: usize) -> Element
+    requires { ⌜ StandingList (now s) v ⌝ }
+    ensures { λ r. ⌜ ((ts : Values) (e : ℕ) → Stands (now (s .entry)) (list ts) v e → Comes (now (s .entry)) v ts e r) ⌝ }
+{
+    let i = scan::space(s, v + 1);
+    if s[i] == 93 {
+        return Element::Past(i + 1);
+    }
+    Element::At(i)
+}
+
+// The element behind the one that ends at a place.
+pub fn next_element(s: &[u8], i: usize) -> Element
+    requires { ⌜ Resting (now s) i ⌝ }
+    ensures { λ r. ⌜ ((ts : Values) (e : ℕ) → Rest (now (s .entry)) ts i e → Comes (now (s .entry)) i ts e r) ⌝ }
+{
+    let j = scan::space(s, i);
+    if s[j] == 93 {
+        return Element::Past(j + 1);
+    }
+    Element::At(scan::space(s, j + 1))
+}
+
+// The member whose name's opening quote stands at a place.
+fn entry(s: &[u8], i: usize) -> Member
+    requires { ⌜ Entering (now s) i ⌝ }
+    ensures { λ r. ⌜ ((ms : Members) (e : ℕ) → Entry (now (s .entry)) ms i e → Leads (now (s .entry)) i ms e r) ⌝ }
+{
+    let r = scan::string(s, i + 1);
+    match r {
+        Part::Past(q) => {
+            let c = scan::space(s, q);
+            let v = scan::space(s, c + 1);
+            Member::Named {
+                name: i + 1,
+                end: q - 1,
+                value: v,
+            }
+        }
+        Part::Fails(_) => Member::Past(i),
+    }
+}
+
+// The first member of the object that stands at a place.
+pub fn first_member(s: &[u8], v: usize) -> Member
+    requires { ⌜ StandingObject (now s) v ⌝ }
+    ensures { λ r. ⌜ ((ms : Members) (e : ℕ) → Stands (now (s .entry)) (object ms) v e → Leads (now (s .entry)) v ms e r) ⌝ }
+{
+    let i = scan::space(s, v + 1);
+    if s[i] == 125 {
+        return Member::Past(i + 1);
+    }
+    entry(s, i)
+}
+
+// The member behind the one that ends at a place.
+pub fn next_member(s: &[u8], i: usize) -> Member
+    requires { ⌜ Continuing (now s) i ⌝ }
+    ensures { λ r. ⌜ ((ms : Members) (e : ℕ) → Others (now (s .entry)) ms i e → Leads (now (s .entry)) i ms e r) ⌝ }
+{
+    let j = scan::space(s, i);
+    if s[j] == 125 {
+        return Member::Past(j + 1);
+    }
+    entry(s, scan::space(s, j + 1))
+}
