@@ -18,3 +18,7 @@ pub mod Stable
 pub mod Verdict
 pub mod Contents
 pub mod Meaning
+pub mod Lines
+pub mod Putting
+pub mod Strings
+pub mod Written

@@ -1,0 +1,182 @@
+-- The lines found place by place are the lines of the text, and a text has one list of lines.
+use mathlib.Core.Path.{_≡_, refl, sym, ap, _∙_, subst}
+use mathlib.Core.Bool.{Bool, true, false}
+use mathlib.Core.List.{List, [], _∷_, _++_, append-nil}
+use Prim.Native.Nat.{ℕ, zero, suc, _+_, _-_, _≤_, _<_}
+use native.Mathlib.Omega.{arith}
+use native.Mathlib.Numerals.{add-one}
+use native.Mathlib.Decide.{decLt, ℕ-discrete}
+use lib.Dec.{eqb, ltb}
+use lib.ListN.{length, getD, take, drop, take-append-drop, length-drop, length-append, drop-of-length-le}
+use lib.Seq.{drop-cons, drop-drop, drop-length, take-all, take-at, drop-append-add}
+use borrow.Author.Tests.{eq-eqb, ne-eqb, lt-ltb, le-ltb}
+use Rattle.text.specs.Base.{pick, part}
+use Rattle.text.specs.Lines.{Unbroken, none, more, Lines, nothing, last, line, unbroken, lineTo, lineAt}
+use Rattle.text.specs.declared.lines.Line.{Line}
+use Rattle.text.specs.declared.lines.Line.the-variants.{Here, None}
+
+-- ---- counting to the first LF
+
+pub unbroken-lf : (s : List ℕ) (i : ℕ) → i < length s → getD s i 0 ≡ 10 → unbroken (drop i s) ≡ 0
+unfolding unbroken
+unbroken-lf s i h e = ap unbroken (drop-cons s i 0 h) ∙ rw (eq-eqb (getD s i 0) 10 e)
+
+pub unbroken-more : (s : List ℕ) (i : ℕ) → i < length s → (getD s i 0 ≡ 10 → ⊥) → i + unbroken (drop i s) ≡ i + 1 + unbroken (drop (i + 1) s)
+unfolding unbroken
+unbroken-more s i h n =
+    let one : unbroken (drop i s) ≡ suc (unbroken (drop (suc i) s)) = ap unbroken (drop-cons s i 0 h) ∙ rw (ne-eqb (getD s i 0) 10 n) in
+    let same : unbroken (drop (suc i) s) ≡ unbroken (drop (i + 1) s) = ap (λ (k : ℕ). unbroken (drop k s)) (sym (add-one i)) in
+    omega (arith, one, same)
+
+pub unbroken-end : (s : List ℕ) (i : ℕ) → length s ≤ i → unbroken (drop i s) ≡ 0
+unfolding unbroken
+unbroken-end s i h = ap unbroken (drop-of-length-le s h)
+
+-- ---- the line that the code finds
+
+pub line-some : (s : List ℕ) (i e : ℕ) → i < length s → e ≡ i + unbroken (drop i s) → lineTo s e ≡ lineAt s i
+unfolding lineAt
+line-some s i e h z = rw (lt-ltb i (length s) h) (ap (lineTo s) z)
+
+pub line-lf : (s : List ℕ) (i e : ℕ) → i < length s → e ≡ i + unbroken (drop i s) → e < length s → Here e (e + 1) ≡ lineAt s i
+line-lf s i e h z g = sym (rw (lt-ltb e (length s) g)) ∙ line-some s i e h z
+
+pub line-last : (s : List ℕ) (i e : ℕ) → i < length s → e ≡ i + unbroken (drop i s) → length s ≤ e → Here e e ≡ lineAt s i
+line-last s i e h z g = sym (rw (le-ltb e (length s) g)) ∙ line-some s i e h z
+
+pub line-over : (s : List ℕ) (i : ℕ) → length s ≤ i → None ≡ lineAt s i
+unfolding lineAt
+line-over s i h = rw (le-ltb i (length s) h)
+
+-- ---- what it means
+
+data Cut (w : List ℕ) : Type 0 where
+  all : Unbroken w → unbroken w ≡ length w → Cut w
+  before : (v r : List ℕ) → w ≡ v ++ (10 ∷ r) → Unbroken v → unbroken w ≡ length v → Cut w
+
+cut-cons : (b : ℕ) (w : List ℕ) → Dec (b ≡ 10) → Cut w → Cut (b ∷ w)
+unfolding unbroken
+cut-cons b w (yes e) c = before [] w (ap (λ (x : ℕ). x ∷ w) e) none (rw (eq-eqb b 10 e))
+cut-cons b w (no n) (all u z) = all (more n u) (rw (ne-eqb b 10 n) (ap suc z))
+cut-cons b w (no n) (before v r q u z) = before (b ∷ v) r (ap (λ (l : List ℕ). b ∷ l) q) (more n u) (rw (ne-eqb b 10 n) (ap suc z))
+
+cut : (w : List ℕ) → Cut w
+unfolding unbroken
+cut [] = all none refl
+cut (b ∷ w) = cut-cons b w (ℕ-discrete b 10) (cut w)
+
+-- no line begins past the end, and a line begins anywhere else
+here-none : (e n : ℕ) → Here e n ≡ None → ⊥
+here-none e n q = let z : _≡_ {A = ℕ} 0 1 = cc in omega arith
+
+line-begins : (s : List ℕ) (i : ℕ) → i < length s → lineAt s i ≡ None → ⊥
+line-begins s i h q = by (decLt (i + unbroken (drop i s)) (length s))
+  where
+    by : Dec (i + unbroken (drop i s) < length s) → ⊥
+    by (yes g) = here-none _ _ (line-lf s i _ h refl g ∙ q)
+    by (no g) = here-none _ _ (line-last s i _ h refl (omega arith) ∙ q)
+
+pub line-none : (s : List ℕ) (i : ℕ) → lineAt s i ≡ None → Lines (drop i s) []
+line-none s i e = by (decLt i (length s))
+  where
+    by : Dec (i < length s) → Lines (drop i s) []
+    by (no h) = subst (λ (l : List ℕ). Lines l []) (sym (drop-of-length-le s {i = i} (omega arith))) nothing
+    by (yes h) = absurd (line-begins s i h e)
+
+-- nothing has no line
+append-full : (w s : List ℕ) (b : ℕ) → w ++ (b ∷ s) ≡ [] → ⊥
+append-full w s b q = let l = ap length q ∙ refl in omega (arith, l, length-append w (b ∷ s))
+
+lines-empty : {l : List ℕ} {ls : List (List ℕ)} → Lines l ls → l ≡ [] → ls ≡ []
+lines-empty nothing q = refl
+lines-empty (last {b} {w} u) q = absurd (append-full [] w b q)
+lines-empty (line {w} {s} u r) q = absurd (append-full w s 10 q)
+
+last-line : (w : List ℕ) → 0 < length w → Unbroken w → Lines w (w ∷ [])
+last-line [] h u = absurd (omega arith)
+last-line (b ∷ w) h u = last u
+
+-- a line with its LF: where the next one begins, and what stands before
+module _ (s : List ℕ) (i : ℕ) (v r : List ℕ) (q : drop i s ≡ v ++ (10 ∷ r)) where
+  line-part : part s i (i + length v) ≡ v
+  line-part =
+      let k : i + length v - i ≡ length v = omega arith in
+      ap (λ (n : ℕ). take n (drop i s)) k ∙ ap (take (length v)) q ∙ take-at v (10 ∷ r) (length v) refl
+
+  line-next : drop (i + length v + 1) s ≡ r
+  line-next =
+      let k : i + (length v + 1) ≡ i + length v + 1 = omega arith in
+      ap (λ (n : ℕ). drop n s) (sym k) ∙ sym (drop-drop (length v + 1) i s) ∙ ap (drop (length v + 1)) q ∙ rw (drop-append-add v (10 ∷ r) 1)
+
+  line-inside : i + length v < length s
+  line-inside = let l = sym (length-drop i s) ∙ ap length q ∙ length-append v (10 ∷ r) in omega arith
+
+-- the line found, and the lines from the next place on, are the lines from here on
+pub line-here : (s : List ℕ) (i e n : ℕ) (ls : List (List ℕ)) → lineAt s i ≡ Here e n → Lines (drop n s) ls → Lines (drop i s) (part s i e ∷ ls)
+line-here s i e n ls q r = by (decLt i (length s))
+  where
+    ended : i < length s → e ≡ length s → n ≡ length s → Unbroken (drop i s) → Lines (drop i s) (part s i e ∷ ls)
+    ended h a b u =
+        let z = lines-empty r (ap (λ (k : ℕ). drop k s) b ∙ drop-length s) in
+        let l = length-drop i s in
+        let w : part s i e ≡ drop i s = take-all (e - i) (drop i s) (omega arith) in
+        subst (λ (x : List (List ℕ)). Lines (drop i s) (part s i e ∷ x)) (sym z)
+        (subst (λ (x : List ℕ). Lines (drop i s) (x ∷ [])) (sym w) (last-line (drop i s) (omega arith) u))
+
+    broken : (v t : List ℕ) → drop i s ≡ v ++ (10 ∷ t) → Unbroken v → e ≡ i + length v → n ≡ i + length v + 1 → Lines (drop i s) (part s i e ∷ ls)
+    broken v t z u a b =
+        let tail : Lines t ls = subst (λ (x : List ℕ). Lines x ls) (ap (λ (k : ℕ). drop k s) b ∙ line-next s i v t z) r in
+        let w : v ≡ part s i e = sym (ap (part s i) a ∙ line-part s i v t z) in
+        subst (λ (x : List ℕ). Lines x (part s i e ∷ ls)) (sym z)
+        (subst (λ (x : List ℕ). Lines (v ++ (10 ∷ t)) (x ∷ ls)) w (line u tail))
+
+    cases : i < length s → Cut (drop i s) → Lines (drop i s) (part s i e ∷ ls)
+    cases h (all u z) =
+        let l = length-drop i s in
+        let p : Here (i + unbroken (drop i s)) (i + unbroken (drop i s)) ≡ Here e n = line-last s i _ h refl (omega arith) ∙ q in
+        let a : i + unbroken (drop i s) ≡ e = cc in
+        let b : i + unbroken (drop i s) ≡ n = cc in
+        ended h (omega arith) (omega arith) u
+    cases h (before v t y u z) =
+        let g = line-inside s i v t y in
+        let p : Here (i + unbroken (drop i s)) (i + unbroken (drop i s) + 1) ≡ Here e n = line-lf s i _ h refl (omega arith) ∙ q in
+        let a : i + unbroken (drop i s) ≡ e = cc in
+        let b : i + unbroken (drop i s) + 1 ≡ n = cc in
+        broken v t y u (omega arith) (omega arith)
+
+    by : Dec (i < length s) → Lines (drop i s) (part s i e ∷ ls)
+    by (yes h) = cases h (cut (drop i s))
+    by (no h) = absurd (here-none e n (sym q ∙ sym (line-over s i (omega arith))))
+
+-- ---- one list of lines
+
+-- the bytes before the first LF are the first line
+first-line : {w v : List ℕ} (s t : List ℕ) → Unbroken w → Unbroken v → w ++ (10 ∷ s) ≡ v ++ (10 ∷ t) → (w ≡ v) × (s ≡ t)
+first-line s t none none q = (refl, cc)
+first-line s t none (more {b} n u) q = absurd (n (cc))
+first-line s t (more n u) none q = absurd (n (cc))
+first-line s t (more {b} {w} n u) (more {b = c} {w = v} m x) q =
+    let e : b ≡ c = cc in
+    let l : w ++ (10 ∷ s) ≡ v ++ (10 ∷ t) = cc in
+    let r = first-line s t u x l in
+    (ap (λ (y : ℕ). y ∷ w) e ∙ ap (λ (y : List ℕ). c ∷ y) (r .0), r .1)
+
+no-lf : {w : List ℕ} (v t : List ℕ) → Unbroken w → w ≡ v ++ (10 ∷ t) → ⊥
+no-lf v t none q = append-full v t 10 (sym q)
+no-lf [] t (more n u) q = n (cc)
+no-lf (c ∷ v) t (more {b} {w} n u) q = no-lf v t u (cc)
+
+lines-same : {s t : List ℕ} {ls ms : List (List ℕ)} → Lines s ls → Lines t ms → s ≡ t → ls ≡ ms
+lines-same nothing r q = sym (lines-empty r (sym q))
+lines-same (last {b} {w} u) nothing q = absurd (append-full [] w b q)
+lines-same (last u) (last x) q = ap (λ (l : List ℕ). l ∷ []) q
+lines-same (last u) (line {w} {s} x r) q = absurd (no-lf w s u q)
+lines-same (line {w} {s} u p) nothing q = absurd (append-full w s 10 q)
+lines-same (line {w} {s} u p) (last x) q = absurd (no-lf w s x (sym q))
+lines-same (line {w} {s} {ls} u p) (line {w = v} {s = t} {ls = ms} x r) q =
+    let f = first-line s t u x q in
+    let l = lines-same p r (f .1) in
+    ap (λ (y : List ℕ). y ∷ ls) (f .0) ∙ ap (λ (y : List (List ℕ)). v ∷ y) l
+
+pub lines-unique : {s : List ℕ} {ls ms : List (List ℕ)} → Lines s ls → Lines s ms → ls ≡ ms
+lines-unique p q = lines-same p q refl
