@@ -180,3 +180,37 @@ lines-same (line {w} {s} {ls} u p) (line {w = v} {s = t} {ls = ms} x r) q =
 
 pub lines-unique : {s : List ℕ} {ls ms : List (List ℕ)} → Lines s ls → Lines s ms → ls ≡ ms
 lines-unique p q = lines-same p q refl
+
+-- ---- for whoever goes from line to line
+
+-- a line's end and the next line's beginning, in the text and past the line's beginning
+pub record Ahead (s : List ℕ) (i e n : ℕ) : Type 0 where
+  pub order : i ≤ e
+  pub inside : e ≤ length s
+  pub next : n ≤ length s
+  pub later : i < n
+
+unbroken-within : (w : List ℕ) → unbroken w ≤ length w
+unbroken-within w = by (cut w)
+  where
+    by : Cut w → unbroken w ≤ length w
+    by (all u z) = omega arith
+    by (before v r y u z) = let l = ap length y ∙ length-append v (10 ∷ r) in omega arith
+
+pub line-ahead : (s : List ℕ) (i e n : ℕ) → lineAt s i ≡ Here e n → Ahead s i e n
+line-ahead s i e n q = by (decLt i (length s)) (decLt (i + unbroken (drop i s)) (length s))
+  where
+    by : Dec (i < length s) → Dec (i + unbroken (drop i s) < length s) → Ahead s i e n
+    by (no h) d = absurd (here-none e n (sym q ∙ sym (line-over s i (omega arith))))
+    by (yes h) (yes g) =
+        let p : Here (i + unbroken (drop i s)) (i + unbroken (drop i s) + 1) ≡ Here e n = line-lf s i _ h refl g ∙ q in
+        let a : i + unbroken (drop i s) ≡ e = cc in
+        let b : i + unbroken (drop i s) + 1 ≡ n = cc in
+        record { order = omega arith; inside = omega arith; next = omega arith; later = omega arith }
+    by (yes h) (no g) =
+        let p : Here (i + unbroken (drop i s)) (i + unbroken (drop i s)) ≡ Here e n = line-last s i _ h refl (omega arith) ∙ q in
+        let a : i + unbroken (drop i s) ≡ e = cc in
+        let b : i + unbroken (drop i s) ≡ n = cc in
+        let u = unbroken-within (drop i s) in
+        let l = length-drop i s in
+        record { order = omega arith; inside = omega arith; next = omega arith; later = omega arith }
