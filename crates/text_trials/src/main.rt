@@ -24,8 +24,7 @@ fn byte(high: u8, low: u8) -> u8 {
 }
 
 // The bytes that the digits of a line spell from its third byte on, as many as there is room for.
-fn spell(line: &[u8], out: &mut [u8]) -> usize
-{
+fn spell(line: &[u8], out: &mut [u8]) -> usize {
     let mut i = 2;
     let mut n = 0;
     while n < out.len() {
