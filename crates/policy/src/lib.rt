@@ -1,0 +1,2 @@
+// Policies and records: layouts, limits, refusals and the decision. Knows nothing of logs and rooms.
+pub mod refusals;
