@@ -3,3 +3,8 @@ pub mod Limits
 pub mod Refusals
 pub mod Policy
 pub mod Forms
+pub mod Words
+pub mod Members
+pub mod PolicyLayout
+pub mod RecordLayout
+pub mod Held
