@@ -5,6 +5,7 @@ pub mod Policy
 pub mod Forms
 pub mod Words
 pub mod Members
+pub mod Slots
 pub mod PolicyLayout
 pub mod RecordLayout
 pub mod Held
