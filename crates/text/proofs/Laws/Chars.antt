@@ -1,13 +1,13 @@
 -- The twin takes each character of a string, and all of a string with its closing quote.
-use mathlib.Core.Path.{_≡_, refl, sym, ap, _∙_, subst}
+use mathlib.Core.Path.{_≡_, refl, ap, _∙_}
 use mathlib.Core.List.{List, [], _∷_, _++_, append-assoc}
-use Prim.Native.Nat.{ℕ, _+_, _≤_, _<_}
+use Prim.Native.Nat.{ℕ, _+_, _≤_}
 use native.Mathlib.Omega.{arith}
 use lib.ListN.{length, length-append, replicate}
 use Rattle.text.specs.Base.{In, oneOf}
 use Rattle.text.specs.Utf8.{Sequence, Tail, ascii, c2-df, e0, e1-ec, ed, ee-ef, f0, f1-f3, f4}
 use Rattle.text.specs.Strings.{Unit, Short, quote, reverse-solidus, solidus, backspace, form-feed, line-feed, carriage-return, tab, Hex, digit, upper, lower, Char, unescaped, escaped, hexed, Body, end, more}
-use Rattle.text.specs.Machine.{Item, Move, go, range, hex, text, char, escape, sequence, letters, high, owing, move, run}
+use Rattle.text.specs.Machine.{Item, Move, go, range, hex, text, escape, sequence, high, owing, move, run}
 use Rattle.text.proofs.Laws.Eating.{run-takes}
 use Rattle.text.proofs.Laws.Moves as B
 

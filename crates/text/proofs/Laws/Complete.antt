@@ -1,29 +1,27 @@
 -- What the grammar reads the twin passes: by induction on the reading, since what follows a value in a text stops every number.
 use mathlib.Core.Path.{_≡_, refl, sym, ap, _∙_, subst}
-use mathlib.Core.Bool.{Bool, true, false}
 use mathlib.Core.List.{List, [], _∷_, _++_, map}
-use Prim.Native.Nat.{ℕ, zero, suc, _+_, _-_, _≤_, _<_, max}
+use Prim.Native.Nat.{ℕ, zero, suc, _+_, _≤_, _<_}
 use native.Mathlib.Omega.{arith}
-use native.Mathlib.Numerals.{sub-one}
 use native.Mathlib.Decide.{decLt}
 use types.Run.{OneOf}
 use mathlib.Core.Logic.{_⊎_, inl, inr, ⊎-elim}
 use lib.ListN.{length, getD, drop}
 use lib.Seq.{drop-cons, drop-length}
-use Rattle.text.specs.Base.{In, At, oneOf}
-use Rattle.text.specs.Json.{Json, Values, Members, no-more, also, no-members, named, null, bool, number, string, list, object, depth, depths, depthm, White, tab, line-feed, carriage-return, space, Space, no-space, white, Int, zero, from-1-9, Number, unsigned, negative, Spelt, Quoted, Piece, a-value, elements, rest, members, more, Reads, a-null, a-true, a-false, a-number, a-string, empty-list, some-list, element, close-list, comma-list, empty-object, some-object, member, close-object, comma-object}
+use Rattle.text.specs.Base.{At, oneOf}
+use Rattle.text.specs.Json.{Json, Values, Members, depth, depths, depthm, White, tab, line-feed, carriage-return, space, Space, no-space, white, zero, from-1-9, Number, unsigned, negative, Spelt, Quoted, Piece, a-value, elements, rest, members, more, Reads, a-null, a-true, a-false, a-number, a-string, empty-list, some-list, element, close-list, comma-list, empty-object, some-object, member, close-object, comma-object}
 use Rattle.text.specs.Contents.{Ends, with-text, before}
 use Rattle.text.specs.Verdicts.{Text}
 use Rattle.text.specs.declared.scan.Verdict.the-variants.{Whole}
-use Rattle.text.specs.Machine.{Item, Move, pass, go, ws, byte, text, value, first, next, inner, opens, move, optional, from, run, feed, ends, verdictAt}
+use Rattle.text.specs.Machine.{Item, Move, pass, go, ws, byte, text, value, first, next, inner, move, optional, from, run, feed, ends, verdictAt}
 use Rattle.text.specs.Machine as M
 use Rattle.text.specs.Reading.{Leads, Done}
 use Rattle.text.specs.declared.scan.Shape.{Shape}
 use Rattle.text.specs.declared.scan.Shape.the-variants.{List as a-list, Object as an-object}
 use Rattle.text.proofs.Laws.Reading.{seq, frame, takes, passes, skips, alike, from-empty}
 use Rattle.text.proofs.Laws.Values.{next-goes}
-use Rattle.text.proofs.Laws.Parts.{spelt-drop, spelt-length, spelt-first, spelt-one}
-use Rattle.text.proofs.Laws.Eating.{Eats, Passed, Calm, eats-done, word-eats, run-takes}
+use Rattle.text.proofs.Laws.Parts.{spelt-drop, spelt-length, spelt-first}
+use Rattle.text.proofs.Laws.Eating.{Passed, Calm, eats-done, word-eats, run-takes}
 use Rattle.text.proofs.Laws.Numbers.{number-eat}
 use Rattle.text.proofs.Laws.Chars.{text-eat}
 use Rattle.text.proofs.Laws.Moves as B

@@ -1,19 +1,18 @@
 -- What stands at a place, as the walkers find it: the twin tells every place, and a place has one piece.
 use mathlib.Core.Path.{_≡_, refl, sym, ap, _∙_, subst}
-use mathlib.Core.Bool.{Bool, true, false}
-use mathlib.Core.Logic.{_⊎_, inl, inr, ⊎-elim}
-use mathlib.Core.List.{List, [], _∷_, _++_, map}
-use Prim.Native.Nat.{ℕ, zero, suc, _+_, _-_, _≤_, _<_, max}
+use mathlib.Core.Logic.{_⊎_, inl, inr}
+use mathlib.Core.List.{List, [], _∷_, map}
+use Prim.Native.Nat.{ℕ, zero, _+_, _-_, _≤_, _<_}
 use native.Mathlib.Omega.{arith}
 use lib.Dec.{eqb}
 use lib.ListN.{length, getD, drop}
-use borrow.Author.Tests.{eq-eqb, ne-eqb}
+use borrow.Author.Tests.{ne-eqb}
 use Rattle.text.specs.Base.{pick, At, part, oneOf}
-use Rattle.text.specs.Json.{Json, Values, Members, no-more, also, no-members, named, null, bool, number, string, list, object, depth, depths, depthm, levels, Space, Number, unsigned, negative, Int, zero, from-1-9, Spelt, Quoted, a-value, elements, rest, members, more, Reads, a-null, a-true, a-false, a-number, a-string, empty-list, some-list, element, close-list, comma-list, empty-object, some-object, member, close-object, comma-object, JsonText}
+use Rattle.text.specs.Json.{Json, Values, Members, no-more, no-members, named, null, string, list, object, depth, depths, depthm, levels, Space, Number, unsigned, negative, zero, from-1-9, Spelt, Quoted, a-value, elements, rest, members, more, Reads, a-null, a-true, a-false, a-number, a-string, empty-list, some-list, element, close-list, comma-list, empty-object, some-object, member, close-object, comma-object, JsonText}
 use Rattle.text.specs.Machine.{Item, pass, ws, byte, text, value, move, verdict}
-use Rattle.text.specs.Reading.{Done, Falls, Fault}
+use Rattle.text.specs.Reading.{Done, Falls}
 use Rattle.text.specs.Verdicts.{Text}
-use Rattle.text.specs.Contents.{Ends, Some, Stands, Rest, Others, Entry, kindOf, Raw, First, Leader, Leads, Rooted}
+use Rattle.text.specs.Contents.{Some, Stands, Rest, Others, Entry, kindOf, Raw, First, Leader, Leads, Rooted}
 use Rattle.text.specs.declared.scan.Verdict.{Verdict}
 use Rattle.text.specs.declared.scan.Verdict.the-variants.{Whole, Breaks, Deep}
 use Rattle.text.specs.declared.walk.Kind.{Kind}
@@ -23,7 +22,7 @@ use Rattle.text.specs.declared.walk.Member.the-variants as M
 use Rattle.text.proofs.Laws.Reading.{fall-frame}
 use Rattle.text.proofs.Laws.Places.{done-alive, alive-fall, done-unique, not-whole}
 use Rattle.text.proofs.Laws.Parts.{spelt-first}
-use Rattle.text.proofs.Laws.Complete.{ends-rest, ends-more, ends-after, space-done, body-done, quoted-done, Starts, value-starts, elements-start, members-start, reads-done, text-complete}
+use Rattle.text.proofs.Laws.Complete.{ends-rest, ends-more, ends-after, space-done, body-done, value-starts, elements-start, members-start, reads-done}
 use Rattle.text.proofs.Laws.Sound.{text-sound}
 use Rattle.text.proofs.Laws.Once.{once, text-unique}
 

@@ -1,13 +1,13 @@
 -- Items that take all of some bytes and are done before what follows.
-use mathlib.Core.Path.{_≡_, refl, sym, ap, _∙_, subst}
-use mathlib.Core.Bool.{Bool, true, false}
+use mathlib.Core.Path.{_≡_, refl, ap, _∙_}
+use mathlib.Core.Bool.{true}
 use mathlib.Core.List.{List, [], _∷_, _++_, map}
-use Prim.Native.Nat.{ℕ, _+_, _≤_}
+use Prim.Native.Nat.{ℕ, _+_}
 use native.Mathlib.Omega.{arith}
 use lib.ListN.{length, drop}
 use Rattle.text.specs.Json.{Spelt}
-use Rattle.text.specs.Machine.{Item, Move, pass, go, byte, digits, fraction, exponent, move, optional, onto, feed, ends, after, run, from}
-use Rattle.text.specs.Reading.{Leads, Done}
+use Rattle.text.specs.Machine.{Item, pass, go, byte, digits, fraction, exponent, move, optional, feed, ends, run, from}
+use Rattle.text.specs.Reading.{Done}
 use Rattle.text.proofs.Laws.Parts.{spelt-drop, spelt-length}
 use Rattle.text.proofs.Laws.Moves.{byte-is}
 

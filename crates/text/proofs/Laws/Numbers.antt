@@ -1,15 +1,15 @@
 -- The twin takes all of a number, where no number goes on behind it.
-use mathlib.Core.Path.{_≡_, refl, sym, ap, _∙_, subst}
+use mathlib.Core.Path.{_≡_, refl, sym, ap, _∙_}
 use mathlib.Core.Logic.{inl, inr, ⊎-elim}
 use mathlib.Core.List.{List, [], _∷_, _++_, append-assoc}
-use Prim.Native.Nat.{ℕ, _+_, _≤_, _<_}
+use Prim.Native.Nat.{ℕ, _+_}
 use native.Mathlib.Omega.{arith}
 use types.Run.{OneOf}
 use lib.ListN.{length, length-append}
 use Rattle.text.specs.Base.{In}
 use Rattle.text.specs.Json.{Digits, no-digit, digit, Digits₁, digits, Int, zero, from-1-9, Frac, no-frac, frac, Sign, no-sign, plus, minus, Exp, no-exp, upper, lower, Number, unsigned, negative}
-use Rattle.text.specs.Machine.{Item, pass, go, integer, fraction, exponent, sign, value, move, run}
-use Rattle.text.proofs.Laws.Eating.{Eats, Passed, Calm, run-takes, run-alike, passed-run, passed-eats}
+use Rattle.text.specs.Machine.{Item, go, integer, fraction, exponent, sign, value, move, run}
+use Rattle.text.proofs.Laws.Eating.{Eats, Passed, Calm, run-takes, run-alike, passed-eats}
 use Rattle.text.specs.Machine as M
 use Rattle.text.proofs.Laws.Moves as B
 

@@ -2,17 +2,17 @@
 use mathlib.Core.Path.{_≡_, refl, sym, ap, _∙_, subst}
 use mathlib.Core.Bool.{Bool, true, false}
 use mathlib.Core.List.{List, [], _∷_, _++_, map, append-nil}
-use Prim.Native.Nat.{ℕ, suc, _+_, _≤_, _<_}
+use Prim.Native.Nat.{ℕ, _+_, _≤_, _<_}
 use native.Mathlib.Omega.{arith}
 use native.Mathlib.Decide.{decLt}
 use lib.Dec.{eqb}
 use lib.ListN.{length, getD, drop}
 use Rattle.text.specs.Base.{pick}
-use Rattle.text.specs.Machine.{Item, Move, pass, bad, deep, go, byte, range, text, char, move, optional, onto, owing, feed, ends, after, run, from, value}
+use Rattle.text.specs.Machine.{Item, Move, pass, bad, deep, go, byte, range, text, char, move, optional, owing, feed, ends, after, run, from, value}
 use Rattle.text.specs.Reading.{Leads, Done, Falls, Fault}
 use Rattle.text.specs.declared.scan.Verdict.{Verdict}
 use Rattle.text.specs.declared.scan.Verdict.the-variants.{Whole, Breaks, Deep}
-use Rattle.text.proofs.Laws.Reading.{from-cons, from-empty, takes, refuses, sinks, stops}
+use Rattle.text.proofs.Laws.Reading.{from-cons, takes, refuses, sinks, stops}
 use Rattle.text.proofs.Laws.Moves.{Firm, char-firm, value-firm, byte-is, range-under, range-over}
 
 -- a verdict that is a fault is not Whole

@@ -1,23 +1,21 @@
 -- What the twin takes where the text is whole, in strings: each character is one of the grammar's, up to the closing quote.
-use mathlib.Core.Path.{_≡_, refl, sym, ap, _∙_, subst}
-use mathlib.Core.Bool.{true, false}
-use mathlib.Core.Logic.{_⊎_, inl, inr, ⊎-elim}
+use mathlib.Core.Path.{_≡_, refl, sym, _∙_, subst}
+use mathlib.Core.Logic.{⊎-elim}
 use mathlib.Core.List.{List, [], _∷_, _++_}
-use Prim.Native.Nat.{ℕ, zero, suc, _+_, _*_, _-_, _≤_, _<_}
+use Prim.Native.Nat.{ℕ, _+_, _*_, _-_, _≤_, _<_}
 use native.Mathlib.Omega.{arith}
 use native.Mathlib.Decide.{decLt, ℕ-discrete}
 use lib.ListN.{length, getD, replicate}
-use types.Run.{OneOf}
-use Rattle.text.specs.Base.{In, At, oneOf}
+use Rattle.text.specs.Base.{In, At}
 use Rattle.text.specs.Utf8.{Sequence, Tail, two, three, four, ascii, c2-df, e0, e1-ec, ed, ee-ef, f0, f1-f3, f4}
 use Rattle.text.specs.Strings.{Unit, plain, coded, Short, quote, reverse-solidus, solidus, backspace, form-feed, line-feed, carriage-return, tab, Hex, digit, upper, lower, Char, unescaped, escaped, hexed, Body, end, more}
 use Rattle.text.specs.Json.{Spelt}
-use Rattle.text.specs.Machine.{Item, Move, pass, bad, go, range, hex, text, char, escape, letters, sequence, high, move, optional}
-use Rattle.text.proofs.Laws.Reading.{takes, refuses, passes, skips, alike}
+use Rattle.text.specs.Machine.{Item, bad, go, range, hex, text, char, escape, sequence, high, move, optional}
+use Rattle.text.proofs.Laws.Reading.{alike}
 use Rattle.text.proofs.Laws.Places.{Alive, alive-seq, alive-inside}
 use Rattle.text.proofs.Laws.Parts.{spelt-none, spelt-one, spelt-cons, spelt-append, spelt-length}
 use Rattle.text.proofs.Laws.Chars.{short-is, hex-is}
-use Rattle.text.proofs.Laws.Taking.{Took, from-end, here, alive-takes, alive-refuses, Ranged, alive-range}
+use Rattle.text.proofs.Laws.Taking.{Took, from-end, here, alive-takes, alive-refuses, alive-range}
 use Rattle.text.proofs.Laws.Moves as B
 
 -- the bytes of some character

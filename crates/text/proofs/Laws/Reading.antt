@@ -1,6 +1,6 @@
 -- How the twin reads one byte and the end, and how the promises of two parts are put together.
 use mathlib.Core.Path.{_≡_, refl, sym, ap, _∙_, subst}
-use mathlib.Core.Bool.{Bool, true, false}
+use mathlib.Core.Bool.{true, false}
 use mathlib.Core.List.{List, [], _∷_, _++_, map, append-assoc}
 use Prim.Native.Nat.{ℕ, zero, suc, _+_, _-_, _≤_, _<_}
 use native.Mathlib.Numerals.{add-one, sub-one}
@@ -8,7 +8,7 @@ use native.Mathlib.Omega.{arith}
 use lib.ListN.{length, drop, getD, replicate}
 use lib.Seq.{drop-cons, drop-length}
 use Rattle.text.specs.Base.{pick}
-use Rattle.text.specs.Machine.{Item, Move, pass, bad, deep, go, byte, move, optional, onto, feed, ends, after, run, from}
+use Rattle.text.specs.Machine.{Item, pass, bad, deep, go, byte, move, optional, feed, ends, after, run, from}
 use Rattle.text.specs.Reading.{Leads, Done, Falls, Goes}
 use Rattle.text.specs.declared.scan.Verdict.{Verdict}
 use Rattle.text.specs.declared.scan.Verdict.the-variants.{Whole, Breaks, Deep}

@@ -3,14 +3,13 @@ use mathlib.Core.Path.{_≡_, refl, sym, ap, _∙_, subst}
 use mathlib.Core.Bool.{true, false}
 use mathlib.Core.Logic.{_⊎_, inl, inr}
 use mathlib.Core.List.{List, [], _∷_, _++_, map, append-assoc}
-use Prim.Native.Nat.{ℕ, zero, suc, _+_, _-_, _≤_, _<_, max}
+use Prim.Native.Nat.{ℕ, zero, suc, _+_, _≤_, _<_}
 use native.Mathlib.Omega.{arith}
-use native.Mathlib.Numerals.{sub-one}
 use native.Mathlib.Decide.{decLt, ℕ-discrete}
 use lib.ListN.{length, getD}
 use Rattle.text.specs.Base.{At}
-use Rattle.text.specs.Json.{Json, Values, Members, no-more, also, no-members, named, null, bool, number, string, list, object, depth, depths, depthm, Space, Number, unsigned, negative, Spelt, Quoted, Piece, a-value, elements, rest, members, more, Reads, a-null, a-true, a-false, a-number, a-string, empty-list, some-list, element, close-list, comma-list, empty-object, some-object, member, close-object, comma-object}
-use Rattle.text.specs.Machine.{Item, Move, pass, bad, deep, go, ws, byte, text, integer, value, first, next, before, inner, move, optional, verdictAt}
+use Rattle.text.specs.Json.{Json, Values, Members, no-more, also, no-members, named, null, bool, number, string, list, object, depth, depths, depthm, Space, Number, unsigned, negative, Spelt, Piece, a-value, elements, rest, members, more, Reads, a-null, a-true, a-false, a-number, a-string, empty-list, some-list, element, close-list, comma-list, empty-object, some-object, member, close-object, comma-object}
+use Rattle.text.specs.Machine.{Item, go, ws, byte, text, integer, value, first, next, before, inner, move, optional, verdictAt}
 use Rattle.text.specs.Verdicts.{Text}
 use Rattle.text.specs.declared.scan.Verdict.the-variants.{Whole, Breaks}
 use Rattle.text.specs.Machine as M
@@ -18,10 +17,9 @@ use Rattle.text.specs.declared.scan.Shape.{Shape}
 use Rattle.text.specs.declared.scan.Shape.the-variants.{List as a-list, Object as an-object}
 use Rattle.text.proofs.Laws.Reading.{sinks, alike}
 use Rattle.text.proofs.Laws.Places.{Alive, alive-fall, alive-seq, alive-inside, not-whole, past-end}
-use Rattle.text.proofs.Laws.Values.{next-goes}
-use Rattle.text.proofs.Laws.Parts.{spelt-none, spelt-one, spelt-cons, spelt-append, spelt-length}
-use Rattle.text.proofs.Laws.Taking.{Took, from-end, here, alive-takes, alive-refuses, Due, alive-byte, Spaced, alive-space, Plain, plain-later, took-plain}
-use Rattle.text.proofs.Laws.Quoting.{Closed, alive-text}
+use Rattle.text.proofs.Laws.Parts.{spelt-none, spelt-cons}
+use Rattle.text.proofs.Laws.Taking.{Took, from-end, alive-takes, alive-refuses, alive-byte, Spaced, alive-space, plain-later, took-plain}
+use Rattle.text.proofs.Laws.Quoting.{alive-text}
 use Rattle.text.proofs.Laws.Complete.{space-low}
 use Rattle.text.proofs.Laws.Moves as B
 

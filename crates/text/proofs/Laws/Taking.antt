@@ -1,18 +1,17 @@
 -- What the twin takes where the text is whole: each item's bytes are what the grammar calls by its name. White space, numbers.
 use mathlib.Core.Path.{_≡_, refl, sym, ap, _∙_, subst}
-use mathlib.Core.Bool.{true, false}
-use mathlib.Core.Logic.{_⊎_, inl, inr, ⊎-elim}
-use mathlib.Core.List.{List, [], _∷_, _++_, append-assoc}
+use mathlib.Core.Bool.{true}
+use mathlib.Core.Logic.{inl, inr, ⊎-elim}
+use mathlib.Core.List.{List, [], _∷_, _++_}
 use Prim.Native.Nat.{ℕ, zero, suc, _+_, _-_, _≤_, _<_}
 use native.Mathlib.Omega.{arith}
 use native.Mathlib.Decide.{decLt, ℕ-discrete}
 use lib.ListN.{length, getD, length-append}
 use types.Run.{OneOf}
 use Rattle.text.specs.Base.{In, At}
-use Rattle.text.specs.Json.{White, tab, line-feed, carriage-return, space, Space, no-space, white, Digits, no-digit, digit, Digits₁, digits, Int, zero, from-1-9, Frac, no-frac, frac, Sign, no-sign, plus, minus, Exp, no-exp, upper, lower, Number, unsigned, negative, Spelt}
-use Rattle.text.specs.Machine.{Item, Move, pass, bad, deep, go, ws, byte, range, integer, fraction, exponent, sign, move, optional}
+use Rattle.text.specs.Json.{White, tab, line-feed, carriage-return, space, Space, no-space, white, Digits, no-digit, digit, Digits₁, digits, Int, zero, from-1-9, Frac, no-frac, frac, Sign, no-sign, plus, minus, Exp, no-exp, upper, lower, Spelt}
+use Rattle.text.specs.Machine.{Item, pass, bad, go, ws, byte, range, integer, fraction, exponent, sign, move, optional}
 use Rattle.text.specs.Machine as M
-use Rattle.text.specs.Reading.{Leads}
 use Rattle.text.proofs.Laws.Reading.{takes, refuses, passes, skips, alike}
 use Rattle.text.proofs.Laws.Places.{Alive, alive-fall, alive-seq, alive-inside}
 use Rattle.text.proofs.Laws.Parts.{spelt-none, spelt-one, spelt-cons, spelt-append, spelt-length}

@@ -6,8 +6,8 @@ use native.Mathlib.Omega.{arith}
 use native.Mathlib.Numerals.{sub-one}
 use lib.ListN.{length, getD}
 use Rattle.text.specs.Json.{levels}
-use Rattle.text.specs.Machine.{Item, Move, go, deep, ws, byte, text, value, first, next, before, inner, close, opener, opens, move, optional, ends, verdictAt, verdict}
-use Rattle.text.specs.Reading.{Leads, Done, Falls, Goes, Opened, Opens, Enters, Begins, Continues, Followed, Follows}
+use Rattle.text.specs.Machine.{go, ws, byte, text, value, first, next, before, inner, close, opener, opens, optional, ends, verdictAt, verdict}
+use Rattle.text.specs.Reading.{Leads, Done, Falls, Goes, Opens, Enters, Begins, Followed, Follows}
 use Rattle.text.specs.declared.scan.Verdict.{Verdict}
 use Rattle.text.specs.declared.scan.Verdict.the-variants.{Whole, Breaks, Deep}
 use Rattle.text.specs.declared.scan.Part.{Part}

@@ -1,6 +1,4 @@
 -- The line ends before the first LF or with the text.
-use mathlib.Core.Path.{_≡_, refl, sym, ap, _∙_}
-use native.Mathlib.Omega.{arith}
 use Rattle.text.proofs.Laws.Lines.{line-over, line-lf, line-last}
 use borrow.Author.Needs.{needs}
 use Rattle.text.proofs.lines.line_at.Statement.{statement}

@@ -1,6 +1,6 @@
 -- The first inner value takes one of the levels left, so `left` falls at each call; the loop's place is always that of an
 -- inner value owed.
-use mathlib.Core.List.{List, [], _∷_}
+use mathlib.Core.List.{[], _∷_}
 use Prim.Native.Nat.{ℕ, _-_, _<_}
 use native.Mathlib.Omega.{arith}
 use borrow.Author.Needs.{needs}

@@ -1,9 +1,7 @@
 -- One law for each kind of first byte; what is owed behind it is what the call reads.
-use mathlib.Core.Path.{_≡_, refl, sym, ap, _∙_}
-use mathlib.Core.List.{List, [], _∷_, map}
-use Prim.Native.Nat.{ℕ, _≤_, _-_, _+_}
+use mathlib.Core.Path.{refl}
+use mathlib.Core.List.{[], _∷_, map}
 use native.Mathlib.Omega.{arith}
-use lib.ListN.{length, getD, drop, replicate}
 use mathlib.Core.Logic.{inl, inr}
 use Rattle.text.specs.Machine.{byte, text, integer, value, optional}
 use Rattle.text.specs.declared.scan.Shape.the-variants.{List as list, Object as object}

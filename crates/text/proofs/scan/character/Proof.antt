@@ -1,9 +1,7 @@
 -- One law for each kind of first byte; what is owed behind it is what the call reads.
-use mathlib.Core.Path.{_≡_, refl, sym, ap, _∙_}
-use mathlib.Core.List.{List, [], _∷_, map}
-use Prim.Native.Nat.{ℕ, _≤_, _-_, _+_}
+use mathlib.Core.Path.{ap, _∙_}
+use mathlib.Core.List.{[], _∷_}
 use native.Mathlib.Omega.{arith}
-use lib.ListN.{length, getD, drop, replicate}
 use Rattle.text.specs.Machine.{char, escape, range, move}
 use Rattle.text.proofs.Laws.Reading.{goes-seq, takes, refuses}
 use Rattle.text.proofs.Laws.Moves.{char-escape, char-plain, char-low, char-high, high-tail, high-two, high-e0, high-ed, high-three, high-f0, high-four, high-f4, high-none}

@@ -1,10 +1,8 @@
 -- A letter is taken by the escape itself, `u` owes four digits.
-use mathlib.Core.Path.{_≡_, refl}
-use mathlib.Core.List.{List, [], _∷_, map}
-use Prim.Native.Nat.{ℕ, _≤_, _-_, _+_}
+use mathlib.Core.Path.{refl}
+use mathlib.Core.List.{[]}
 use native.Mathlib.Omega.{arith}
-use lib.ListN.{length, getD, drop, replicate}
-use Rattle.text.specs.Reading.{Leads}
+use lib.ListN.{replicate}
 use Rattle.text.specs.Machine.{hex, escape, optional}
 use Rattle.text.proofs.Laws.Reading.{goes-seq, takes, refuses, stops}
 use Rattle.text.proofs.Laws.Moves.{escape-letter, escape-hex, escape-not}

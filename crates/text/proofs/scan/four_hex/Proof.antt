@@ -1,9 +1,8 @@
 -- So many digits are still owed as `left` says.
-use mathlib.Core.Path.{_≡_, refl}
-use mathlib.Core.List.{List, [], _∷_, map}
-use Prim.Native.Nat.{ℕ, _≤_, _-_, _+_}
+use mathlib.Core.Path.{refl}
+use mathlib.Core.List.{[]}
 use native.Mathlib.Omega.{arith}
-use lib.ListN.{length, getD, drop, replicate}
+use lib.ListN.{replicate}
 use mathlib.Core.Logic.{⊎-elim}
 use Rattle.text.specs.Reading.{Leads}
 use Rattle.text.specs.Machine.{hex, optional}

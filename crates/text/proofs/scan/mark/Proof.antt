@@ -1,11 +1,8 @@
 -- The byte due stands behind the white space, or the text breaks there.
-use mathlib.Core.Path.{_≡_, refl}
-use mathlib.Core.List.{List, [], _∷_, map}
-use Prim.Native.Nat.{ℕ, _≤_, _-_, _+_}
+use mathlib.Core.Path.{refl}
+use mathlib.Core.List.{[], _∷_}
 use native.Mathlib.Omega.{arith}
-use lib.ListN.{length, getD, drop, replicate}
-use Rattle.text.specs.Reading.{Leads}
-use Rattle.text.specs.Machine.{ws, byte, optional}
+use Rattle.text.specs.Machine.{byte, optional}
 use Rattle.text.proofs.Laws.Reading.{seq, frame, fall, takes, refuses, stops}
 use Rattle.text.proofs.Laws.Moves.{byte-is, byte-not}
 use borrow.Author.Needs.{needs}

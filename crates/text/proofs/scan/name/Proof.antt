@@ -1,9 +1,5 @@
 -- A string, a colon and the white space around it, one behind the other.
-use mathlib.Core.Path.{_≡_, refl, sym, ap, _∙_}
-use mathlib.Core.List.{List, [], _∷_, map}
-use Prim.Native.Nat.{ℕ, _≤_, _-_, _+_}
-use native.Mathlib.Omega.{arith}
-use lib.ListN.{length, getD, drop, replicate}
+use mathlib.Core.List.{[], _∷_}
 use Rattle.text.specs.Machine.{ws, byte, text}
 use Rattle.text.proofs.Laws.Reading.{stay, seq, frame, past, failed}
 use borrow.Author.Needs.{needs}

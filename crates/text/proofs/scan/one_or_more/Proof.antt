@@ -1,10 +1,7 @@
 -- The first digit is due, those behind it are not.
-use mathlib.Core.Path.{_≡_, refl}
-use mathlib.Core.List.{List, [], _∷_, map}
-use Prim.Native.Nat.{ℕ, _≤_, _-_, _+_}
+use mathlib.Core.Path.{refl}
+use mathlib.Core.List.{[], _∷_}
 use native.Mathlib.Omega.{arith}
-use lib.ListN.{length, getD, drop, replicate}
-use Rattle.text.specs.Reading.{Leads}
 use Rattle.text.specs.Machine.{digit, digits, optional}
 use Rattle.text.proofs.Laws.Reading.{seq, takes, refuses, stops}
 use Rattle.text.proofs.Laws.Moves.{digit-is, digit-under, digit-over}

@@ -1,9 +1,5 @@
 -- Behind the white space stands the closing byte or a first inner value.
-use mathlib.Core.Path.{_≡_, refl, sym, ap, _∙_}
-use mathlib.Core.List.{List, [], _∷_, map}
-use Prim.Native.Nat.{ℕ, _≤_, _-_, _+_}
-use native.Mathlib.Omega.{arith}
-use lib.ListN.{length, getD, drop, replicate}
+use mathlib.Core.Path.{sym, _∙_}
 use Rattle.text.proofs.Laws.Values.{opened-short, opened-empty, opened-inner, opened-fails}
 use borrow.Author.Needs.{needs}
 use Rattle.text.proofs.scan.opened.Statement.{statement}

@@ -1,10 +1,7 @@
 -- An e owes a sign or none and a digit or more; before any other byte there is no exponent.
-use mathlib.Core.Path.{_≡_, refl}
-use mathlib.Core.List.{List, [], _∷_, map}
-use Prim.Native.Nat.{ℕ, _≤_, _-_, _+_}
+use mathlib.Core.Path.{refl}
+use mathlib.Core.List.{[], _∷_}
 use native.Mathlib.Omega.{arith}
-use lib.ListN.{length, getD, drop, replicate}
-use Rattle.text.specs.Reading.{Leads}
 use Rattle.text.specs.Machine.{sign, digit, digits, exponent, optional}
 use Rattle.text.proofs.Laws.Reading.{seq, frame, goes-seq, takes, passes, skips}
 use Rattle.text.proofs.Laws.Moves.{exponent-is, exponent-not}

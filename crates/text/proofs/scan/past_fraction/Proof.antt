@@ -1,12 +1,8 @@
 -- A dot owes a digit or more and then an exponent or none; without it there may be an exponent alone.
-use mathlib.Core.Path.{_≡_, refl}
-use mathlib.Core.List.{List, [], _∷_, map}
-use Prim.Native.Nat.{ℕ, _≤_, _-_, _+_}
+use mathlib.Core.Path.{refl}
+use mathlib.Core.List.{[], _∷_}
 use native.Mathlib.Omega.{arith}
-use lib.ListN.{length, getD, drop, replicate}
-use Rattle.text.specs.Reading.{Leads}
-use mathlib.Core.Path.{ap}
-use Rattle.text.specs.Machine.{Item, digit, digits, fraction, exponent, optional}
+use Rattle.text.specs.Machine.{digit, digits, fraction, exponent, optional}
 use Rattle.text.proofs.Laws.Reading.{seq, frame, goes-seq, past, failed, takes, alike, skips}
 use Rattle.text.proofs.Laws.Moves.{fraction-is, fraction-not, same-move}
 use borrow.Author.Needs.{needs}

@@ -1,6 +1,5 @@
 -- The whole text is white space, a value and white space again, and nothing more.
 use mathlib.Core.List.{[], _∷_}
-use Prim.Native.Nat.{_≤_}
 use native.Mathlib.Omega.{arith}
 use Rattle.text.specs.Json.{levels}
 use Rattle.text.specs.Machine.{value}

@@ -1,10 +1,9 @@
 -- What was passed is digits, and at the end the item is done: before another byte, or with the text.
-use mathlib.Core.Path.{_≡_, refl}
-use mathlib.Core.List.{List, [], _∷_, map}
-use Prim.Native.Nat.{ℕ, _≤_, _-_, _+_}
+use mathlib.Core.Path.{refl}
+use mathlib.Core.List.{[], _∷_}
+use Prim.Native.Nat.{_-_}
 use native.Mathlib.Omega.{arith}
-use lib.ListN.{length, getD, drop, replicate}
-use mathlib.Core.Logic.{⊎-elim}
+use lib.ListN.{length}
 use Rattle.text.specs.Reading.{Leads}
 use Rattle.text.specs.Machine.{digits, optional}
 use Rattle.text.proofs.Laws.Reading.{stay, seq, takes, passes, skips}

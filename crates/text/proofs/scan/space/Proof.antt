@@ -1,9 +1,9 @@
 -- What was passed is white space, and at the end the item is done: before a byte of another kind, or with the text.
-use mathlib.Core.Path.{_≡_, refl}
-use mathlib.Core.List.{List, [], _∷_, map}
-use Prim.Native.Nat.{ℕ, _≤_, _-_, _+_}
+use mathlib.Core.Path.{refl}
+use mathlib.Core.List.{[], _∷_}
+use Prim.Native.Nat.{_-_}
 use native.Mathlib.Omega.{arith}
-use lib.ListN.{length, getD, drop, replicate}
+use lib.ListN.{length}
 use mathlib.Core.Logic.{⊎-elim}
 use Rattle.text.specs.Reading.{Leads}
 use Rattle.text.specs.Machine.{ws, optional}

@@ -1,10 +1,10 @@
 -- The rest of the string is owed at `i`; each turn takes one character of it.
-use mathlib.Core.Path.{_≡_, refl, sym, ap, _∙_}
-use mathlib.Core.List.{List, [], _∷_, map}
-use Prim.Native.Nat.{ℕ, _≤_, _-_, _+_}
+use mathlib.Core.Path.{refl}
+use mathlib.Core.List.{[], _∷_}
+use Prim.Native.Nat.{_-_}
 use native.Mathlib.Omega.{arith}
-use lib.ListN.{length, getD, drop, replicate}
-use Rattle.text.specs.Machine.{Move, text, char, move, feed, onto, optional}
+use lib.ListN.{length}
+use Rattle.text.specs.Machine.{text, char, optional}
 use Rattle.text.specs.Reading.{Leads}
 use Rattle.text.proofs.Laws.Reading.{stay, seq, frame, fall, past, failed, takes, alike, stops}
 use Rattle.text.proofs.Laws.Moves.{text-quote, text-one}

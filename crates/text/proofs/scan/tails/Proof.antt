@@ -1,10 +1,8 @@
 -- The byte due next is from `low` to `high`, and `left` tails are owed behind it.
-use mathlib.Core.Path.{_≡_, refl}
-use mathlib.Core.List.{List, [], _∷_, map}
-use Prim.Native.Nat.{ℕ, _≤_, _-_, _+_}
+use mathlib.Core.Path.{refl}
+use mathlib.Core.List.{[], _∷_}
 use native.Mathlib.Omega.{arith}
-use lib.ListN.{length, getD, drop, replicate}
-use mathlib.Core.Logic.{⊎-elim}
+use lib.ListN.{replicate}
 use Rattle.text.specs.Reading.{Leads}
 use Rattle.text.specs.Machine.{range, optional}
 use Rattle.text.proofs.Laws.Reading.{stay, seq, fall, takes, refuses, stops, peel, spent}

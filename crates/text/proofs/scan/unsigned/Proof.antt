@@ -1,10 +1,7 @@
 -- A zero stands alone before the fraction, any other digit may have more behind it.
-use mathlib.Core.Path.{_≡_, refl}
-use mathlib.Core.List.{List, [], _∷_, map}
-use Prim.Native.Nat.{ℕ, _≤_, _-_, _+_}
+use mathlib.Core.Path.{refl}
+use mathlib.Core.List.{[], _∷_}
 use native.Mathlib.Omega.{arith}
-use lib.ListN.{length, getD, drop, replicate}
-use Rattle.text.specs.Reading.{Leads}
 use Rattle.text.specs.Machine.{digits, integer, fraction, optional}
 use Rattle.text.proofs.Laws.Reading.{seq, frame, goes-seq, takes, refuses, stops}
 use Rattle.text.proofs.Laws.Moves.{integer-zero, integer-more, integer-under, integer-over}

@@ -1,12 +1,10 @@
 -- The bytes of w from `j` on are still owed.
-use mathlib.Core.Path.{_≡_, refl}
-use mathlib.Core.List.{List, [], _∷_, map}
-use Prim.Native.Nat.{ℕ, _≤_, _-_, _+_}
+use mathlib.Core.Path.{refl}
+use mathlib.Core.List.{[], map}
+use Prim.Native.Nat.{_≤_, _-_}
 use native.Mathlib.Omega.{arith}
-use lib.ListN.{length, getD, drop, replicate}
-use mathlib.Core.Logic.{⊎-elim}
+use lib.ListN.{length, drop}
 use Rattle.text.specs.Reading.{Leads}
-use mathlib.Core.Path.{sym}
 use Rattle.text.specs.Machine.{byte, optional}
 use Rattle.text.proofs.Laws.Reading.{stay, seq, fall, takes, refuses, stops, letter, spelt}
 use Rattle.text.proofs.Laws.Moves.{byte-is, byte-not}

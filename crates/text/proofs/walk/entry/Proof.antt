@@ -1,9 +1,6 @@
 -- A name, a colon and a value stand there, and the twin tells where each ends.
-use mathlib.Core.Path.{_≡_, refl, sym, ap, _∙_}
-use mathlib.Core.List.{List, [], _∷_}
-use Prim.Native.Nat.{ℕ, _≤_, _<_, _+_, _-_}
+use mathlib.Core.List.{[], _∷_}
 use native.Mathlib.Omega.{arith}
-use lib.ListN.{length, getD}
 use Rattle.text.specs.Machine.{text}
 use Rattle.text.proofs.Laws.Reading.{past, fell}
 use Rattle.text.proofs.Laws.Places.{text-grows}

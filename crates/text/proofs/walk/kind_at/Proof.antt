@@ -1,9 +1,5 @@
 -- Each kind of value has first bytes of its own.
-use mathlib.Core.Path.{_≡_, refl, sym, ap, _∙_}
-use mathlib.Core.List.{List, [], _∷_}
-use Prim.Native.Nat.{ℕ, _≤_, _<_, _+_, _-_}
-use native.Mathlib.Omega.{arith}
-use lib.ListN.{length, getD}
+use mathlib.Core.Path.{refl}
 use Rattle.text.specs.declared.walk.Kind.the-variants as K
 use Rattle.text.proofs.Laws.Contents.{kindBy, stands-inside, kind-is, kind-else}
 use Rattle.text.proofs.walk.kind_at.Statement.{statement}

@@ -1,9 +1,5 @@
 -- Behind the white space stands the closing brace, or a comma and behind it the next member.
-use mathlib.Core.Path.{_≡_, refl, sym, ap, _∙_}
-use mathlib.Core.List.{List, [], _∷_}
-use Prim.Native.Nat.{ℕ, _≤_, _<_, _+_, _-_}
 use native.Mathlib.Omega.{arith}
-use lib.ListN.{length, getD}
 use Rattle.text.proofs.Laws.Contents.{others-inside, more-turn, turn-inside, turn-closed, turn-open, leads-later}
 use borrow.Author.Needs.{needs}
 use Rattle.text.proofs.walk.next_member.Statement.{statement}

@@ -1,9 +1,6 @@
 -- The twin reads the value that stands there to its end, and cannot fail.
-use mathlib.Core.Path.{_≡_, refl, sym, ap, _∙_}
-use mathlib.Core.List.{List, [], _∷_}
-use Prim.Native.Nat.{ℕ, _≤_, _<_, _+_, _-_}
+use mathlib.Core.List.{[], _∷_}
 use native.Mathlib.Omega.{arith}
-use lib.ListN.{length, getD}
 use Rattle.text.specs.Json.{levels}
 use Rattle.text.specs.Machine.{value}
 use Rattle.text.proofs.Laws.Reading.{past, fell}

@@ -1,9 +1,6 @@
 -- The raw part lies between the opening quote and the byte before the place where the twin ends the string.
-use mathlib.Core.Path.{_≡_, refl, sym, ap, _∙_}
-use mathlib.Core.List.{List, [], _∷_}
-use Prim.Native.Nat.{ℕ, _≤_, _<_, _+_, _-_}
+use mathlib.Core.List.{[], _∷_}
 use native.Mathlib.Omega.{arith}
-use lib.ListN.{length, getD}
 use Rattle.text.specs.Machine.{text}
 use Rattle.text.proofs.Laws.Reading.{past, fell}
 use Rattle.text.proofs.Laws.Places.{text-grows}
