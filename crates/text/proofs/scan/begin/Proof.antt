@@ -62,34 +62,75 @@ unsigned-requires-2 : tie.Need-unsigned-requires-2
 unsigned-requires-2 c κs = search needs
 
 returns-4 : tie.Need-returns-4
-returns-4 c = goes-seq (c .string .result) (takes (value _) [] (text ∷ []) (c .before .before .before .if1 .left) (value-text _ _ (c .before .match .keys1))) (c .string .ensures)
+returns-4 c =
+    let if1 = c .before .before .before .if1 in
+    goes-seq (c .string .result) (takes (value _) [] (text ∷ []) (if1 .left) (value-text _ _ (c .before .match .keys1)))
+    (c .string .ensures)
 
 returns-5 : tie.Need-returns-5
-returns-5 c = goes-seq (c .unsigned .result) (takes (value _) [] (integer ∷ []) (c .before .before .before .if1 .left) (value-minus _ _ (c .before .match .keys2))) (c .unsigned .ensures)
+returns-5 c =
+    let if1 = c .before .before .before .if1 in
+    goes-seq (c .unsigned .result)
+    (takes (value _) [] (integer ∷ []) (if1 .left) (value-minus _ _ (c .before .match .keys2)))
+    (c .unsigned .ensures)
 
 returns-6 : tie.Need-returns-6
-returns-6 c = begins-opened list (c .before .before .before .before .if1 .left) (c .before .before .match .keys3) (c .opened .result) (c .before .if2 .left) (c .opened .ensures)
+returns-6 c =
+    let if1 = c .before .before .before .before .if1 in
+    begins-opened list (if1 .left) (c .before .before .match .keys3) (c .opened .result) (c .before .if2 .left)
+    (c .opened .ensures)
 
 returns-7 : tie.Need-returns-7
-returns-7 c = goes-seq (c .word .result) (takes (value _) [] (map byte (97 ∷ 108 ∷ 115 ∷ 101 ∷ [])) (c .before .before .before .before .if1 .left) (value-false _ _ (c .before .before .match .keys4))) (c .word .ensures)
+returns-7 c =
+    let if1 = c .before .before .before .before .if1 in
+    goes-seq (c .word .result)
+    (takes (value _) [] (map byte (97 ∷ 108 ∷ 115 ∷ 101 ∷ [])) (if1 .left)
+    (value-false _ _ (c .before .before .match .keys4))) (c .word .ensures)
 
 returns-8 : tie.Need-returns-8
-returns-8 c = goes-seq (c .word2 .result) (takes (value _) [] (map byte (117 ∷ 108 ∷ 108 ∷ [])) (c .before .before .before .before .if1 .left) (value-null _ _ (c .before .before .match .keys5))) (c .word2 .ensures)
+returns-8 c =
+    let if1 = c .before .before .before .before .if1 in
+    goes-seq (c .word2 .result)
+    (takes (value _) [] (map byte (117 ∷ 108 ∷ 108 ∷ [])) (if1 .left)
+    (value-null _ _ (c .before .before .match .keys5))) (c .word2 .ensures)
 
 returns-9 : tie.Need-returns-9
-returns-9 c = goes-seq (c .word3 .result) (takes (value _) [] (map byte (114 ∷ 117 ∷ 101 ∷ [])) (c .before .before .before .before .if1 .left) (value-true _ _ (c .before .before .match .keys6))) (c .word3 .ensures)
+returns-9 c =
+    let if1 = c .before .before .before .before .if1 in
+    goes-seq (c .word3 .result)
+    (takes (value _) [] (map byte (114 ∷ 117 ∷ 101 ∷ [])) (if1 .left)
+    (value-true _ _ (c .before .before .match .keys6))) (c .word3 .ensures)
 
 returns-10 : tie.Need-returns-10
-returns-10 c = begins-opened object (c .before .before .before .before .if1 .left) (c .before .before .match .keys7) (c .opened2 .result) (c .before .if3 .left) (c .opened2 .ensures)
+returns-10 c =
+    let if1 = c .before .before .before .before .if1 in
+    begins-opened object (if1 .left) (c .before .before .match .keys7) (c .opened2 .result) (c .before .if3 .left)
+    (c .opened2 .ensures)
 
 returns-11 : tie.Need-returns-11
-returns-11 c = goes-seq (c .unsigned2 .result) (alike (value _ ∷ []) (integer ∷ []) (c .before .before .before .before .before .if1 .left) (same-move _ (value _) integer (value-digit _ _ (c .before .before .if4 .left) (c .before .if5 .taken)))) (c .unsigned2 .ensures)
+returns-11 c =
+    let if1 = c .before .before .before .before .before .if1 in
+    goes-seq (c .unsigned2 .result)
+    (alike (value _ ∷ []) (integer ∷ []) (if1 .left)
+    (same-move _ (value _) integer (value-digit _ _ (c .before .before .if4 .left) (c .before .if5 .taken))))
+    (c .unsigned2 .ensures)
 
 returns-12 : tie.Need-returns-12
-returns-12 c = refuses (value _) [] (c .before .before .before .if1 .left) (value-none _ _ (c .before .match .rest .0 .0 .0 .0 .0 .0 .1) (c .before .match .rest .0 .0 .0 .0 .0 .1) (inl (c .if4 .taken)) (c .before .match .rest .0 .0 .0 .0 .1) (c .before .match .rest .0 .0 .0 .1) (c .before .match .rest .0 .0 .1) (c .before .match .rest .0 .1) (c .before .match .rest .1))
+returns-12 c =
+    let if1 = c .before .before .before .if1 in
+    refuses (value _) [] (if1 .left)
+    (value-none _ _ (c .before .match .rest .0 .0 .0 .0 .0 .0 .1) (c .before .match .rest .0 .0 .0 .0 .0 .1)
+    (inl (c .if4 .taken)) (c .before .match .rest .0 .0 .0 .0 .1) (c .before .match .rest .0 .0 .0 .1)
+    (c .before .match .rest .0 .0 .1) (c .before .match .rest .0 .1) (c .before .match .rest .1))
 
 returns-13 : tie.Need-returns-13
-returns-13 c = refuses (value _) [] (c .before .before .before .before .if1 .left) (value-none _ _ (c .before .before .match .rest .0 .0 .0 .0 .0 .0 .1) (c .before .before .match .rest .0 .0 .0 .0 .0 .1) (inr (c .if5 .left)) (c .before .before .match .rest .0 .0 .0 .0 .1) (c .before .before .match .rest .0 .0 .0 .1) (c .before .before .match .rest .0 .0 .1) (c .before .before .match .rest .0 .1) (c .before .before .match .rest .1))
+returns-13 c =
+    let if1 = c .before .before .before .before .if1 in
+    let arms = c .before .before .match in
+    refuses (value _) [] (if1 .left)
+    (value-none _ _ (arms .rest .0 .0 .0 .0 .0 .0 .1) (arms .rest .0 .0 .0 .0 .0 .1) (inr (c .if5 .left))
+    (arms .rest .0 .0 .0 .0 .1) (arms .rest .0 .0 .0 .1) (arms .rest .0 .0 .1) (arms .rest .0 .1)
+    (arms .rest .1))
 
 pub begin-spec : {M : Type 1} → statement M
 begin-spec =

@@ -37,40 +37,108 @@ tails-requires-7 : tie.Need-tails-requires-7
 tails-requires-7 c κs = search needs
 
 returns : tie.Need-returns
-returns c = goes-seq (c .escaped .result) (takes char [] (escape ∷ []) (c .before .before .before .pre .inside) (ap (move char) (c .before .before .before .pre .is) ∙ char-escape _ (c .before .match .keys1))) (c .escaped .ensures)
+returns c =
+    let pre = c .before .before .before .pre in
+    goes-seq (c .escaped .result)
+    (takes char [] (escape ∷ []) (pre .inside) (ap (move char) (pre .is) ∙ char-escape _ (c .before .match .keys1)))
+    (c .escaped .ensures)
 
 returns-2 : tie.Need-returns-2
-returns-2 c = goes-seq (c .tails .result) (takes char [] (range 160 191 ∷ range 128 191 ∷ []) (c .before .before .before .pre .inside) (ap (move char) (c .before .before .before .pre .is) ∙ char-high _ (omega (arith, c .before .match .keys2)) ∙ high-e0 _ (c .before .match .keys2))) (c .tails .ensures)
+returns-2 c =
+    let pre = c .before .before .before .pre in
+    goes-seq (c .tails .result)
+    (takes char [] (range 160 191 ∷ range 128 191 ∷ []) (pre .inside)
+    (ap (move char) (pre .is)
+    ∙ char-high _ (omega (arith, c .before .match .keys2))
+    ∙ high-e0 _ (c .before .match .keys2))) (c .tails .ensures)
 
 returns-3 : tie.Need-returns-3
-returns-3 c = goes-seq (c .tails2 .result) (takes char [] (range 128 159 ∷ range 128 191 ∷ []) (c .before .before .before .pre .inside) (ap (move char) (c .before .before .before .pre .is) ∙ char-high _ (omega (arith, c .before .match .keys3)) ∙ high-ed _ (c .before .match .keys3))) (c .tails2 .ensures)
+returns-3 c =
+    let pre = c .before .before .before .pre in
+    goes-seq (c .tails2 .result)
+    (takes char [] (range 128 159 ∷ range 128 191 ∷ []) (pre .inside)
+    (ap (move char) (pre .is)
+    ∙ char-high _ (omega (arith, c .before .match .keys3))
+    ∙ high-ed _ (c .before .match .keys3))) (c .tails2 .ensures)
 
 returns-4 : tie.Need-returns-4
-returns-4 c = goes-seq (c .tails3 .result) (takes char [] (range 144 191 ∷ range 128 191 ∷ range 128 191 ∷ []) (c .before .before .before .pre .inside) (ap (move char) (c .before .before .before .pre .is) ∙ char-high _ (omega (arith, c .before .match .keys4)) ∙ high-f0 _ (c .before .match .keys4))) (c .tails3 .ensures)
+returns-4 c =
+    let pre = c .before .before .before .pre in
+    goes-seq (c .tails3 .result)
+    (takes char [] (range 144 191 ∷ range 128 191 ∷ range 128 191 ∷ []) (pre .inside)
+    (ap (move char) (pre .is)
+    ∙ char-high _ (omega (arith, c .before .match .keys4))
+    ∙ high-f0 _ (c .before .match .keys4))) (c .tails3 .ensures)
 
 returns-5 : tie.Need-returns-5
-returns-5 c = goes-seq (c .tails4 .result) (takes char [] (range 128 143 ∷ range 128 191 ∷ range 128 191 ∷ []) (c .before .before .before .pre .inside) (ap (move char) (c .before .before .before .pre .is) ∙ char-high _ (omega (arith, c .before .match .keys5)) ∙ high-f4 _ (c .before .match .keys5))) (c .tails4 .ensures)
+returns-5 c =
+    let pre = c .before .before .before .pre in
+    goes-seq (c .tails4 .result)
+    (takes char [] (range 128 143 ∷ range 128 191 ∷ range 128 191 ∷ []) (pre .inside)
+    (ap (move char) (pre .is)
+    ∙ char-high _ (omega (arith, c .before .match .keys5))
+    ∙ high-f4 _ (c .before .match .keys5))) (c .tails4 .ensures)
 
 returns-6 : tie.Need-returns-6
-returns-6 c = takes char [] [] (c .before .before .before .before .pre .inside) (ap (move char) (c .before .before .before .before .pre .is) ∙ char-plain _ (c .before .before .match .rest .0 .0 .0 .0 .1) (c .before .if1 .left) (c .if2 .taken))
+returns-6 c =
+    let pre = c .before .before .before .before .pre in
+    takes char [] [] (pre .inside)
+    (ap (move char) (pre .is)
+    ∙ char-plain _ (c .before .before .match .rest .0 .0 .0 .0 .1) (c .before .if1 .left) (c .if2 .taken))
 
 returns-7 : tie.Need-returns-7
-returns-7 c = goes-seq (c .tails5 .result) (takes char [] (range 128 191 ∷ []) (c .before .before .before .before .before .before .before .pre .inside) (ap (move char) (c .before .before .before .before .before .before .before .pre .is) ∙ char-high _ (c .before .before .before .if2 .left) ∙ high-two _ (c .before .before .if3 .left) (c .before .if4 .taken))) (c .tails5 .ensures)
+returns-7 c =
+    let pre = c .before .before .before .before .before .before .before .pre in
+    let if2 = c .before .before .before .if2 in
+    goes-seq (c .tails5 .result)
+    (takes char [] (range 128 191 ∷ []) (pre .inside)
+    (ap (move char) (pre .is)
+    ∙ char-high _ (if2 .left)
+    ∙ high-two _ (c .before .before .if3 .left) (c .before .if4 .taken))) (c .tails5 .ensures)
 
 returns-8 : tie.Need-returns-8
-returns-8 c = goes-seq (c .tails6 .result) (takes char [] (range 128 191 ∷ range 128 191 ∷ []) (c .before .before .before .before .before .before .before .before .pre .inside) (ap (move char) (c .before .before .before .before .before .before .before .before .pre .is) ∙ char-high _ (c .before .before .before .before .if2 .left) ∙ high-three _ (c .before .before .before .before .before .before .match .rest .0 .0 .0 .1) (c .before .before .before .before .before .before .match .rest .0 .0 .1) (c .before .before .if4 .left) (c .before .if5 .taken))) (c .tails6 .ensures)
+returns-8 c =
+    let pre = c .before .before .before .before .before .before .before .before .pre in
+    let arms = c .before .before .before .before .before .before .match in
+    let if2 = c .before .before .before .before .if2 in
+    goes-seq (c .tails6 .result)
+    (takes char [] (range 128 191 ∷ range 128 191 ∷ []) (pre .inside)
+    (ap (move char) (pre .is)
+    ∙ char-high _ (if2 .left)
+    ∙ high-three _ (arms .rest .0 .0 .0 .1) (arms .rest .0 .0 .1) (c .before .before .if4 .left)
+    (c .before .if5 .taken))) (c .tails6 .ensures)
 
 returns-9 : tie.Need-returns-9
-returns-9 c = goes-seq (c .tails7 .result) (takes char [] (range 128 191 ∷ range 128 191 ∷ range 128 191 ∷ []) (c .before .before .before .before .before .before .before .before .before .pre .inside) (ap (move char) (c .before .before .before .before .before .before .before .before .before .pre .is) ∙ char-high _ (c .before .before .before .before .before .if2 .left) ∙ high-four _ (c .before .before .before .before .before .before .before .match .rest .0 .1) (c .before .before .if5 .left) (c .before .if6 .taken))) (c .tails7 .ensures)
+returns-9 c =
+    let pre = c .before .before .before .before .before .before .before .before .before .pre in
+    let arms = c .before .before .before .before .before .before .before .match in
+    let if2 = c .before .before .before .before .before .if2 in
+    goes-seq (c .tails7 .result)
+    (takes char [] (range 128 191 ∷ range 128 191 ∷ range 128 191 ∷ []) (pre .inside)
+    (ap (move char) (pre .is)
+    ∙ char-high _ (if2 .left)
+    ∙ high-four _ (arms .rest .0 .1) (c .before .before .if5 .left) (c .before .if6 .taken)))
+    (c .tails7 .ensures)
 
 returns-10 : tie.Need-returns-10
-returns-10 c = refuses char [] (c .before .before .before .pre .inside) (ap (move char) (c .before .before .before .pre .is) ∙ char-low _ (c .if1 .taken) ∙ high-tail _ (omega (arith, c .if1 .taken)))
+returns-10 c =
+    let pre = c .before .before .before .pre in
+    refuses char [] (pre .inside)
+    (ap (move char) (pre .is) ∙ char-low _ (c .if1 .taken) ∙ high-tail _ (omega (arith, c .if1 .taken)))
 
 returns-11 : tie.Need-returns-11
-returns-11 c = refuses char [] (c .before .before .before .before .before .pre .inside) (ap (move char) (c .before .before .before .before .before .pre .is) ∙ char-high _ (c .before .if2 .left) ∙ high-tail _ (c .if3 .taken))
+returns-11 c =
+    let pre = c .before .before .before .before .before .pre in
+    refuses char [] (pre .inside)
+    (ap (move char) (pre .is) ∙ char-high _ (c .before .if2 .left) ∙ high-tail _ (c .if3 .taken))
 
 returns-12 : tie.Need-returns-12
-returns-12 c = refuses char [] (c .before .before .before .before .before .before .before .before .pre .inside) (ap (move char) (c .before .before .before .before .before .before .before .before .pre .is) ∙ char-high _ (c .before .before .before .before .if2 .left) ∙ high-none _ (c .before .before .before .before .before .before .match .rest .1) (c .if6 .left))
+returns-12 c =
+    let pre = c .before .before .before .before .before .before .before .before .pre in
+    let arms = c .before .before .before .before .before .before .match in
+    let if2 = c .before .before .before .before .if2 in
+    refuses char [] (pre .inside)
+    (ap (move char) (pre .is) ∙ char-high _ (if2 .left) ∙ high-none _ (arms .rest .1) (c .if6 .left))
 
 pub character-spec : {M : Type 1} → statement M
 character-spec =

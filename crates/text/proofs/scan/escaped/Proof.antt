@@ -30,7 +30,10 @@ returns-2 : tie.Need-returns-2
 returns-2 c = takes escape [] [] (c .before .before .if1 .left) (escape-letter _ (c .match .keys1))
 
 returns-3 : tie.Need-returns-3
-returns-3 c = goes-seq (c .four-hex .result) (takes escape [] (replicate 4 hex) (c .before .before .before .if1 .left) (escape-hex _ (c .before .match .keys2))) (c .four-hex .ensures)
+returns-3 c =
+    let if1 = c .before .before .before .if1 in
+    goes-seq (c .four-hex .result)
+    (takes escape [] (replicate 4 hex) (if1 .left) (escape-hex _ (c .before .match .keys2))) (c .four-hex .ensures)
 
 returns-4 : tie.Need-returns-4
 returns-4 c = refuses escape [] (c .before .before .if1 .left) (escape-not _ (c .match .rest .0 .1) (c .match .rest .1))

@@ -23,7 +23,10 @@ some-digits-requires : tie.Need-some-digits-requires
 some-digits-requires c κs = search needs
 
 returns-2 : tie.Need-returns-2
-returns-2 c = seq (takes digit (digits ∷ []) [] (c .before .before .before .before .if1 .left) (digit-is _ (c .before .before .if2 .left) (c .before .if3 .taken))) (c .some-digits .ensures)
+returns-2 c =
+    let if1 = c .before .before .before .before .if1 in
+    seq (takes digit (digits ∷ []) [] (if1 .left) (digit-is _ (c .before .before .if2 .left) (c .before .if3 .taken)))
+    (c .some-digits .ensures)
 
 returns-3 : tie.Need-returns-3
 returns-3 c = refuses digit (digits ∷ []) (c .before .before .if1 .left) (digit-under _ (c .if2 .taken))

@@ -26,9 +26,13 @@ one-or-more-requires : tie.Need-one-or-more-requires
 one-or-more-requires c κs = c .past-sign .ensures .high
 
 returns-2 : tie.Need-returns-2
-returns-2 c = goes-seq (c .one-or-more .result)
-    (seq (takes exponent [] (sign ∷ digit ∷ digits ∷ []) (c .before .before .before .before .if1 .left) (exponent-is _ (c .before .before .match .keys1))) (frame (digit ∷ digits ∷ []) (c .before .past-sign .ensures)))
-    (c .one-or-more .ensures)
+returns-2 c =
+    let if1 = c .before .before .before .before .if1 in
+    goes-seq (c .one-or-more .result)
+    (seq
+    (takes exponent [] (sign ∷ digit ∷ digits ∷ []) (if1 .left)
+    (exponent-is _ (c .before .before .match .keys1)))
+    (frame (digit ∷ digits ∷ []) (c .before .past-sign .ensures))) (c .one-or-more .ensures)
 
 returns-3 : tie.Need-returns-3
 returns-3 c = passes exponent [] (c .before .before .if1 .left) (exponent-not _ (c .match .rest .1))

@@ -31,13 +31,21 @@ loop-less : tie.Need-loop-less Inv-loop μ-loop
 loop-less c = search needs
 
 loop-again : tie.Need-loop-again Inv-loop μ-loop
-loop-again c = seq (c .before .before .before .before .loop .inv) (takes digits [] (digits ∷ []) (c .before .before .before .loop-test .taken) (digits-is _ (c .before .if1 .left) (c .if2 .taken)))
+loop-again c =
+    let loop = c .before .before .before .before .loop in
+    let test = c .before .before .before .loop-test in
+    seq (loop .inv) (takes digits [] (digits ∷ []) (test .taken) (digits-is _ (c .before .if1 .left) (c .if2 .taken)))
 
 returns : tie.Need-returns Inv-loop μ-loop
-returns c = seq (c .before .before .before .loop .inv) (passes digits [] (c .before .before .loop-test .taken) (digits-under _ (c .if1 .taken)))
+returns c =
+    let loop = c .before .before .before .loop in
+    seq (loop .inv) (passes digits [] (c .before .before .loop-test .taken) (digits-under _ (c .if1 .taken)))
 
 returns-2 : tie.Need-returns-2 Inv-loop μ-loop
-returns-2 c = seq (c .before .before .before .before .loop .inv) (passes digits [] (c .before .before .before .loop-test .taken) (digits-over _ (c .if2 .left)))
+returns-2 c =
+    let loop = c .before .before .before .before .loop in
+    let test = c .before .before .before .loop-test in
+    seq (loop .inv) (passes digits [] (test .taken) (digits-over _ (c .if2 .left)))
 
 returns-3 : tie.Need-returns-3 Inv-loop μ-loop
 unfolding optional

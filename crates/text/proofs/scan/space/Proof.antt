@@ -26,10 +26,16 @@ shared-slice-read-b : tie.Need-shared-slice-read-b Inv-loop μ-loop
 shared-slice-read-b c = search needs
 
 returns : tie.Need-returns Inv-loop μ-loop
-returns c = seq (c .before .before .before .before .loop .inv) (passes ws [] (c .before .before .before .loop-test .taken) (ws-under _ (c .if1 .taken) (c .before .match .rest .1)))
+returns c =
+    let loop = c .before .before .before .before .loop in
+    let test = c .before .before .before .loop-test in
+    seq (loop .inv) (passes ws [] (test .taken) (ws-under _ (c .if1 .taken) (c .before .match .rest .1)))
 
 returns-2 : tie.Need-returns-2 Inv-loop μ-loop
-returns-2 c = seq (c .before .before .before .before .before .loop .inv) (passes ws [] (c .before .before .before .before .loop-test .taken) (ws-over _ (c .if2 .left) (c .before .before .match .rest .1)))
+returns-2 c =
+    let loop = c .before .before .before .before .before .loop in
+    let test = c .before .before .before .before .loop-test in
+    seq (loop .inv) (passes ws [] (test .taken) (ws-over _ (c .if2 .left) (c .before .before .match .rest .1)))
 
 add-i : tie.Need-add-i Inv-loop μ-loop
 add-i c = search needs

@@ -29,7 +29,9 @@ add-t11 : tie.Need-add-t11 Inv-loop μ-loop
 add-t11 c = search needs
 
 returns : tie.Need-returns Inv-loop μ-loop
-returns c = seq (c .before .before .before .loop .inv) (takes text [] [] (c .before .before .loop-test .taken) (text-quote _ (c .if1 .taken)))
+returns c =
+    let loop = c .before .before .before .loop in
+    seq (loop .inv) (takes text [] [] (c .before .before .loop-test .taken) (text-quote _ (c .if1 .taken)))
 
 character-requires : tie.Need-character-requires Inv-loop μ-loop
 character-requires c κs = record { inside = c .before .before .loop-test .taken; is = refl }
@@ -41,16 +43,31 @@ enum-told : tie.Need-enum-told Inv-loop μ-loop
 enum-told c = search needs
 
 returns-2 : tie.Need-returns-2 Inv-loop μ-loop
-returns-2 c = failed (char ∷ []) (text ∷ []) _ _ (c .enum-told .given .1)
-    (seq (c .before .before .before .before .before .before .loop .inv) (alike (text ∷ []) (char ∷ text ∷ []) (c .before .before .before .before .before .loop-test .taken) (text-one _ (c .before .before .before .if1 .left))))
+returns-2 c =
+    let loop = c .before .before .before .before .before .before .loop in
+    let test = c .before .before .before .before .before .loop-test in
+    let if1 = c .before .before .before .if1 in
+    failed (char ∷ []) (text ∷ []) _ _ (c .enum-told .given .1)
+    (seq (loop .inv) (alike (text ∷ []) (char ∷ text ∷ []) (test .taken) (text-one _ (if1 .left))))
     (c .before .before .character .ensures)
 
 loop-less : tie.Need-loop-less Inv-loop μ-loop
-loop-less c = omega (arith, char-grows (past (char ∷ []) _ _ (c .before .r .given .1) (c .before .before .before .character .ensures)), past (char ∷ []) _ _ (c .before .r .given .1) (c .before .before .before .character .ensures) .high)
+loop-less c =
+    let after-character = c .before .before .before .character .ensures in
+    omega (
+      arith,
+      char-grows (past (char ∷ []) _ _ (c .before .r .given .1) after-character),
+      past (char ∷ []) _ _ (c .before .r .given .1) after-character .high,
+    )
 
 loop-again : tie.Need-loop-again Inv-loop μ-loop
-loop-again c = seq (seq (c .before .before .before .before .before .before .before .loop .inv) (alike (text ∷ []) (char ∷ text ∷ []) (c .before .before .before .before .before .before .loop-test .taken) (text-one _ (c .before .before .before .before .if1 .left))))
-    (frame (text ∷ []) (past (char ∷ []) _ _ (c .before .r .given .1) (c .before .before .before .character .ensures)))
+loop-again c =
+    let loop = c .before .before .before .before .before .before .before .loop in
+    let test = c .before .before .before .before .before .before .loop-test in
+    let if1 = c .before .before .before .before .if1 in
+    let after-character = c .before .before .before .character .ensures in
+    seq (seq (loop .inv) (alike (text ∷ []) (char ∷ text ∷ []) (test .taken) (text-one _ (if1 .left))))
+    (frame (text ∷ []) (past (char ∷ []) _ _ (c .before .r .given .1) after-character))
 
 returns-3 : tie.Need-returns-3 Inv-loop μ-loop
 unfolding optional

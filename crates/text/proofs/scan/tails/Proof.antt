@@ -28,17 +28,25 @@ shared-slice-read-b : tie.Need-shared-slice-read-b Inv-loop μ-loop
 shared-slice-read-b c = search needs
 
 returns-2 : tie.Need-returns-2 Inv-loop μ-loop
-returns-2 c = fall (c .before .before .before .loop .inv) (refuses (range _ _) _ (c .before .before .if1 .left) (range-under _ _ _ (c .if2 .taken)))
+returns-2 c =
+    let loop = c .before .before .before .loop in
+    fall (loop .inv) (refuses (range _ _) _ (c .before .before .if1 .left) (range-under _ _ _ (c .if2 .taken)))
 
 returns-3 : tie.Need-returns-3 Inv-loop μ-loop
-returns-3 c = fall (c .before .before .before .before .loop .inv) (refuses (range _ _) _ (c .before .before .before .if1 .left) (range-over _ _ _ (c .if3 .taken)))
+returns-3 c =
+    let loop = c .before .before .before .before .loop in
+    let if1 = c .before .before .before .if1 in
+    fall (loop .inv) (refuses (range _ _) _ (if1 .left) (range-over _ _ _ (c .if3 .taken)))
 
 add-i : tie.Need-add-i Inv-loop μ-loop
 add-i c = search needs
 
 returns-4 : tie.Need-returns-4 Inv-loop μ-loop
-returns-4 c = seq (c .before .before .before .before .before .loop .inv)
-    (seq (takes (range _ _) _ [] (c .before .before .before .before .if1 .left) (range-is _ _ _ (c .before .before .if2 .left) (c .before .if3 .left)))
+returns-4 c =
+    let loop = c .before .before .before .before .before .loop in
+    let if1 = c .before .before .before .before .if1 in
+    seq (loop .inv)
+    (seq (takes (range _ _) _ [] (if1 .left) (range-is _ _ _ (c .before .before .if2 .left) (c .before .if3 .left)))
     (spent (range 128 191) _ (c .if4 .taken) (omega arith)))
 
 sub-left : tie.Need-sub-left Inv-loop μ-loop
@@ -48,8 +56,11 @@ loop-less : tie.Need-loop-less Inv-loop μ-loop
 loop-less c = search needs
 
 loop-again : tie.Need-loop-again Inv-loop μ-loop
-loop-again c = seq (c .before .before .before .before .before .loop .inv)
-    (seq (takes (range _ _) _ [] (c .before .before .before .before .if1 .left) (range-is _ _ _ (c .before .before .if2 .left) (c .before .if3 .left)))
+loop-again c =
+    let loop = c .before .before .before .before .before .loop in
+    let if1 = c .before .before .before .before .if1 in
+    seq (loop .inv)
+    (seq (takes (range _ _) _ [] (if1 .left) (range-is _ _ _ (c .before .before .if2 .left) (c .before .if3 .left)))
     (peel (range 128 191) _ (c .if4 .left) (omega arith)))
 
 pub tails-spec : {M : Type 1} → statement M

@@ -21,10 +21,20 @@ returns : tie.Need-returns
 returns c = λ ms e p. turn-closed (object-turn (c .before .before .space .ensures) p) (c .if1 .taken)
 
 entry-requires : tie.Need-entry-requires
-entry-requires c κs = record { what = c .before .before .before .before .pre .what; stop = c .before .before .before .before .pre .stop; is = turn-open (object-turn (c .before .before .space .ensures) (c .before .before .before .before .pre .is)) (c .if1 .left) }
+entry-requires c κs =
+    let pre = c .before .before .before .before .pre in
+    record {
+      what = pre .what;
+      stop = pre .stop;
+      is = turn-open (object-turn (c .before .before .space .ensures) (pre .is)) (c .if1 .left);
+    }
 
 returns-2 : tie.Need-returns-2
-returns-2 c = λ ms e p. leads-later _ _ _ ms e (c .entry .result) (let l = c .before .before .before .space .ensures .low in omega arith) (c .entry .ensures ms e (turn-open (object-turn (c .before .before .before .space .ensures) p) (c .before .if1 .left)))
+returns-2 c =
+    let after-space = c .before .before .before .space .ensures in
+    λ ms e p.
+    leads-later _ _ _ ms e (c .entry .result) (let l = after-space .low in omega arith)
+    (c .entry .ensures ms e (turn-open (object-turn after-space p) (c .before .if1 .left)))
 
 pub first-member-spec : {M : Type 1} → statement M
 first-member-spec =

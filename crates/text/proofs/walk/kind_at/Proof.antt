@@ -33,7 +33,10 @@ unfolding kindBy
 returns-6 c = λ t e p. kind-is p 123 K.Object refl (c .match .keys6)
 
 returns-7 : tie.Need-returns-7
-returns-7 c = λ t e p. kind-else p (c .match .rest .0 .0 .0 .0 .0 .1) (c .match .rest .0 .0 .0 .0 .1) (c .match .rest .0 .0 .0 .1) (c .match .rest .0 .0 .1) (c .match .rest .0 .1) (c .match .rest .1)
+returns-7 c =
+    λ t e p.
+    kind-else p (c .match .rest .0 .0 .0 .0 .0 .1) (c .match .rest .0 .0 .0 .0 .1) (c .match .rest .0 .0 .0 .1)
+    (c .match .rest .0 .0 .1) (c .match .rest .0 .1) (c .match .rest .1)
 
 pub kind-at-spec : {M : Type 1} → statement M
 kind-at-spec =

@@ -18,13 +18,19 @@ returns : tie.Need-returns
 returns c = λ ts e p. turn-closed (rest-turn (c .before .before .space .ensures) p) (c .if1 .taken)
 
 add-space : tie.Need-add-space
-add-space c = let h = turn-inside (rest-turn (c .before .before .space .ensures) (c .before .before .before .before .pre .is)) in omega arith
+add-space c =
+    let pre = c .before .before .before .before .pre in
+    let h = turn-inside (rest-turn (c .before .before .space .ensures) (pre .is)) in omega arith
 
 space-requires-2 : tie.Need-space-requires-2
-space-requires-2 c κs = let h = turn-inside (rest-turn (c .before .before .space .ensures) (c .before .before .before .before .pre .is)) in omega arith
+space-requires-2 c κs =
+    let pre = c .before .before .before .before .pre in
+    let h = turn-inside (rest-turn (c .before .before .space .ensures) (pre .is)) in omega arith
 
 returns-2 : tie.Need-returns-2
-returns-2 c = λ ts e p. turn-open (rest-turn (c .before .before .before .space .ensures) p) (c .before .if1 .left) _ (c .space2 .ensures)
+returns-2 c =
+    let after-space = c .before .before .before .space .ensures in
+    λ ts e p. turn-open (rest-turn after-space p) (c .before .if1 .left) _ (c .space2 .ensures)
 
 pub next-element-spec : {M : Type 1} → statement M
 next-element-spec =

@@ -20,10 +20,18 @@ enum-told : tie.Need-enum-told
 enum-told c = search needs
 
 returns : tie.Need-returns
-returns c = λ t e p. done-unique (value levels ∷ []) (past (value levels ∷ []) _ _ (c .before .r .given .1) (c .before .before .before .value .ensures)) (stands-done p)
+returns c =
+    let after-value = c .before .before .before .value .ensures in
+    λ t e p.
+    done-unique (value levels ∷ []) (past (value levels ∷ []) _ _ (c .before .r .given .1) after-value)
+    (stands-done p)
 
 returns-2 : tie.Need-returns-2
-returns-2 c = λ t e p. absurd (done-fall (value levels ∷ []) (stands-done p) (fell (value levels ∷ []) _ _ (c .enum-told .given .1) (c .before .before .value .ensures)))
+returns-2 c =
+    λ t e p.
+    absurd
+    (done-fall (value levels ∷ []) (stands-done p)
+    (fell (value levels ∷ []) _ _ (c .enum-told .given .1) (c .before .before .value .ensures)))
 
 pub past-value-spec : {M : Type 1} → statement M
 past-value-spec = tie.close (tie.spec value-requires enum-known-r enum-told returns returns-2)
