@@ -7,9 +7,11 @@ pub mod Parts
 pub mod Eating
 pub mod Numbers
 pub mod Chars
+pub mod Ends
+pub mod Spaces
+pub mod Starts
 pub mod Complete
 pub mod Taking
-pub mod Quoting
 pub mod Sound
 pub mod Once
 pub mod Live

@@ -9,7 +9,7 @@ use Rattle.text.specs.Json.{Spelt}
 use Rattle.text.specs.Machine.{Item, pass, go, byte, digits, fraction, exponent, move, optional, feed, ends, run, from}
 use Rattle.text.specs.Reading.{Done}
 use Rattle.text.proofs.Laws.Parts.{spelt-drop, spelt-length}
-use Rattle.text.proofs.Laws.Moves.{byte-is}
+use Rattle.text.proofs.Laws.Moves.Bytes.{byte-is}
 
 -- the items xs take the bytes w before the bytes r, and nothing of r
 abbrev pub Eats : List Item → List ℕ → List ℕ → Type 0

@@ -5,9 +5,9 @@ use Prim.Native.Nat.{ℕ}
 use Rattle.text.specs.Machine.{verdict}
 use Rattle.text.specs.Verdicts.{Means}
 use Rattle.text.specs.declared.scan.Verdict.{Verdict}
+use Rattle.text.proofs.Laws.Verdict as V1
 use Rattle.text.proofs.Laws.Complete.{text-complete}
 use Rattle.text.proofs.Laws.Sound.{text-sound}
-use Rattle.text.proofs.Laws.Verdict as V1
 
 pub verdict-means : (s : List ℕ) → Means s (verdict s)
 verdict-means s = V1.verdict-means text-sound text-complete s

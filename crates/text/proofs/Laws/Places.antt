@@ -13,7 +13,8 @@ use Rattle.text.specs.Reading.{Leads, Done, Falls, Fault}
 use Rattle.text.specs.declared.scan.Verdict.{Verdict}
 use Rattle.text.specs.declared.scan.Verdict.the-variants.{Whole, Breaks, Deep}
 use Rattle.text.proofs.Laws.Reading.{from-cons, takes, refuses, sinks, stops}
-use Rattle.text.proofs.Laws.Moves.{Firm, char-firm, value-firm, byte-is, range-under, range-over}
+use Rattle.text.proofs.Laws.Moves.Owing.{Firm, char-firm, value-firm}
+use Rattle.text.proofs.Laws.Moves.Bytes.{byte-is, range-under, range-over}
 
 -- a verdict that is a fault is not Whole
 pub not-whole : (v : Verdict) → Fault v → v ≡ Whole → ⊥

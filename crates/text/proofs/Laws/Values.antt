@@ -20,7 +20,9 @@ use Rattle.text.specs.declared.scan.Next.{Next}
 use Rattle.text.specs.declared.scan.Next.the-variants.{Inner as Another, Closed, Fails as Stops}
 use Rattle.text.proofs.Laws.Reading.{stay, seq, frame, fall, fall-frame, goes-seq, past, fell, takes, refuses, sinks, stops, alike, from-empty}
 use Rattle.text.proofs.Laws.Places.{past-end}
-use Rattle.text.proofs.Laws.Moves.{byte-is, byte-not, value-opens, first-close, first-enters, next-close, next-comma, next-not}
+use Rattle.text.proofs.Laws.Moves.Bytes.{byte-is, byte-not}
+use Rattle.text.proofs.Laws.Moves.Values.{value-opens, first-close, next-close, next-comma, next-not}
+use Rattle.text.proofs.Laws.Moves.Owing.{first-enters}
 
 -- ---- before an inner value
 

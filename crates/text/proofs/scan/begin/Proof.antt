@@ -5,12 +5,13 @@ use native.Mathlib.Omega.{arith}
 use mathlib.Core.Logic.{inl, inr}
 use Rattle.text.specs.Machine.{byte, text, integer, value, optional}
 use Rattle.text.specs.declared.scan.Shape.the-variants.{List as list, Object as object}
-use Rattle.text.proofs.Laws.Reading.{goes-seq, takes, refuses, stops, alike}
-use Rattle.text.proofs.Laws.Moves.{value-text, value-minus, value-digit, value-false, value-null, value-true, value-none, same-move}
-use Rattle.text.proofs.Laws.Values.{begins-deep, begins-opened}
 use borrow.Author.Needs.{needs}
 use Rattle.text.proofs.scan.begin.Statement.{statement}
 use Rattle.text.proofs.scan.begin.Tie as tie
+use Rattle.text.proofs.Laws.Reading.{goes-seq, takes, refuses, stops, alike}
+use Rattle.text.proofs.Laws.Moves.Values.{value-text, value-minus, value-digit, value-false, value-null, value-true, value-none}
+use Rattle.text.proofs.Laws.Moves.Owing.{same-move}
+use Rattle.text.proofs.Laws.Values.{begins-deep, begins-opened}
 
 returns : tie.Need-returns
 unfolding optional

@@ -6,12 +6,13 @@ use native.Mathlib.Omega.{arith}
 use lib.ListN.{length}
 use Rattle.text.specs.Machine.{text, char, optional}
 use Rattle.text.specs.Reading.{Leads}
-use Rattle.text.proofs.Laws.Reading.{stay, seq, frame, fall, past, failed, takes, alike, stops}
-use Rattle.text.proofs.Laws.Moves.{text-quote, text-one}
-use Rattle.text.proofs.Laws.Places.{char-grows}
 use borrow.Author.Needs.{needs}
 use Rattle.text.proofs.scan.string.Statement.{statement}
 use Rattle.text.proofs.scan.string.Tie as tie
+use Rattle.text.proofs.Laws.Reading.{stay, seq, frame, fall, past, failed, takes, alike, stops}
+use Rattle.text.proofs.Laws.Moves.Strings.{text-quote}
+use Rattle.text.proofs.Laws.Moves.Owing.{text-one}
+use Rattle.text.proofs.Laws.Places.{char-grows}
 
 abbrev Inv-loop : tie.InvT-loop
 Inv-loop s at i₀ i = Leads s (text ∷ []) at (text ∷ []) i
