@@ -6,10 +6,14 @@ use native.Mathlib.Omega.{arith}
 use lib.ListN.{length, length-append, replicate}
 use Rattle.text.specs.Base.{In, oneOf}
 use Rattle.text.specs.Utf8.{Sequence, Tail, ascii, c2-df, e0, e1-ec, ed, ee-ef, f0, f1-f3, f4}
-use Rattle.text.specs.Strings.{Unit, Short, quote, reverse-solidus, solidus, backspace, form-feed, line-feed, carriage-return, tab, Hex, digit, upper, lower, Char, unescaped, escaped, hexed, Body, end, more}
+use Rattle.text.specs.Strings.{Unit, Short, quote, reverse-solidus, solidus, backspace, form-feed, line-feed}
+use Rattle.text.specs.Strings.{carriage-return, tab, Hex, digit, upper, lower, Char, unescaped, escaped, hexed}
+use Rattle.text.specs.Strings.{Body, end, more}
 use Rattle.text.specs.Machine.{Item, Move, go, range, hex, text, escape, sequence, high, owing, move, run}
 use Rattle.text.proofs.Laws.Eating.{run-takes}
-use Rattle.text.proofs.Laws.Moves.Strings.{char-escape, char-high, char-plain, escape-hex, hex-digit, hex-lower, hex-upper, high-e0, high-ed, high-f0, high-f4, high-four, high-three, high-two, text-char, text-quote}
+use Rattle.text.proofs.Laws.Moves.Strings.{char-escape, char-high, char-plain, escape-hex, hex-digit, hex-lower}
+use Rattle.text.proofs.Laws.Moves.Strings.{hex-upper, high-e0, high-ed, high-f0, high-f4, high-four, high-three}
+use Rattle.text.proofs.Laws.Moves.Strings.{high-two, text-char, text-quote}
 use Rattle.text.proofs.Laws.Moves.Bytes.{range-is}
 
 -- a string goes on so behind the bytes bs of one character
@@ -28,7 +32,8 @@ module _ (k : List Item) (r : List ℕ) where
 
 one-onward : (a : ℕ) → a ≤ 127 → 32 ≤ a → (a ≡ 34 → ⊥) → (a ≡ 92 → ⊥) → Onward (a ∷ [])
 one-onward a h l q e k r at =
-    run-takes text k r at a (text ∷ []) (text-char a q ∙ ap (λ (x : Move). owing x (text ∷ [])) (char-plain a e l (omega arith)))
+    run-takes text k r at a (text ∷ [])
+    (text-char a q ∙ ap (λ (x : Move). owing x (text ∷ [])) (char-plain a e l (omega arith)))
 
 two-onward : (a b lo hi : ℕ) → 128 ≤ a → high a ≡ sequence lo hi 0 → In lo hi b → Onward (a ∷ b ∷ [])
 two-onward a b lo hi h e p k r at =
@@ -43,9 +48,11 @@ three-onward a b c lo hi h e p q k r at =
     ∙ tail (text ∷ k) r 128 191 c (at + 1 + 1) q
     ∙ ap (run (text ∷ k) r) (omega arith)
 
-four-onward : (a b c d lo hi : ℕ) → 128 ≤ a → high a ≡ sequence lo hi 2 → In lo hi b → Tail c → Tail d → Onward (a ∷ b ∷ c ∷ d ∷ [])
+four-onward : (a b c d lo hi : ℕ) → 128 ≤ a → high a ≡ sequence lo hi 2 → In lo hi b → Tail c → Tail d
+    → Onward (a ∷ b ∷ c ∷ d ∷ [])
 four-onward a b c d lo hi h e p q u k r at =
-    run-takes text k (b ∷ c ∷ d ∷ r) at a (range lo hi ∷ range 128 191 ∷ range 128 191 ∷ text ∷ []) (lead a (sequence lo hi 2) h e)
+    run-takes text k (b ∷ c ∷ d ∷ r) at a (range lo hi ∷ range 128 191 ∷ range 128 191 ∷ text ∷ [])
+    (lead a (sequence lo hi 2) h e)
     ∙ tail (range 128 191 ∷ range 128 191 ∷ text ∷ k) (c ∷ d ∷ r) lo hi b (at + 1) p
     ∙ tail (range 128 191 ∷ text ∷ k) (d ∷ r) 128 191 c (at + 1 + 1) q
     ∙ tail (text ∷ k) r 128 191 d (at + 1 + 1 + 1) u
@@ -56,12 +63,14 @@ sequence-onward (ascii {a} h) l q e = one-onward a h l q e
 sequence-onward (c2-df {a} {b} h p) l q e =
     two-onward a b 128 191 (let z = h .low in omega arith) (high-two a (h .low) (let z = h .high in omega arith)) p
 sequence-onward (e0 {b} {c} p t) l q e = three-onward 224 b c 160 191 (omega arith) (high-e0 224 refl) p t
-sequence-onward (e1-ec {a} {b} {c} h p t) l q e = three-onward a b c 128 191 (let z = h .low in omega arith) (mid a (h .low) (h .high)) p t
+sequence-onward (e1-ec {a} {b} {c} h p t) l q e =
+    three-onward a b c 128 191 (let z = h .low in omega arith) (mid a (h .low) (h .high)) p t
   where
     mid : (a : ℕ) → 225 ≤ a → a ≤ 236 → high a ≡ sequence 128 191 1
     mid a x y = high-three a (omega arith) (omega arith) (omega arith) (omega arith)
 sequence-onward (ed {b} {c} p t) l q e = three-onward 237 b c 128 159 (omega arith) (high-ed 237 refl) p t
-sequence-onward (ee-ef {a} {b} {c} h p t) l q e = three-onward a b c 128 191 (let z = h .low in omega arith) (late a (h .low) (h .high)) p t
+sequence-onward (ee-ef {a} {b} {c} h p t) l q e =
+    three-onward a b c 128 191 (let z = h .low in omega arith) (late a (h .low) (h .high)) p t
   where
     late : (a : ℕ) → 238 ≤ a → a ≤ 239 → high a ≡ sequence 128 191 1
     late a x y = high-three a (omega arith) (omega arith) (omega arith) (omega arith)
@@ -111,7 +120,8 @@ char-onward (hexed {a} {b} {c} {d} p q s t) k r at =
 
 -- ---- strings
 
-pub text-eat : {w : List ℕ} {us : List Unit} → Body w us → (k : List Item) (r : List ℕ) (at : ℕ) → run (text ∷ k) (w ++ (34 ∷ r)) at ≡ run k r (at + length w + 1)
+pub text-eat : {w : List ℕ} {us : List Unit} → Body w us → (k : List Item) (r : List ℕ) (at : ℕ)
+    → run (text ∷ k) (w ++ (34 ∷ r)) at ≡ run k r (at + length w + 1)
 text-eat end k r at = run-takes text k r at 34 [] (text-quote 34 refl) ∙ ap (run k r) (omega arith)
 text-eat (more {bs} {w} c b) k r at =
     ap (λ (l : List ℕ). run (text ∷ k) l at) (append-assoc bs w (34 ∷ r))

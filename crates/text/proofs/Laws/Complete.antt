@@ -6,11 +6,15 @@ use native.Mathlib.Omega.{arith}
 use lib.ListN.{length, getD, drop}
 use lib.Seq.{drop-cons}
 use Rattle.text.specs.Base.{At, oneOf}
-use Rattle.text.specs.Json.{depth, depths, depthm, Space, zero, Spelt, Quoted, Piece, a-value, elements, rest, members, more, Reads, a-null, a-true, a-false, a-number, a-string, empty-list, some-list, element, close-list, comma-list, empty-object, some-object, member, close-object, comma-object}
+use Rattle.text.specs.Json.{depth, depths, depthm, Space, zero, Spelt, Quoted, Piece, a-value, elements, rest}
+use Rattle.text.specs.Json.{members, more, Reads, a-null, a-true, a-false, a-number, a-string, empty-list}
+use Rattle.text.specs.Json.{some-list, element, close-list, comma-list, empty-object, some-object, member}
+use Rattle.text.specs.Json.{close-object, comma-object}
 use Rattle.text.specs.Contents.{Ends}
 use Rattle.text.specs.Verdicts.{Text}
 use Rattle.text.specs.declared.scan.Verdict.the-variants.{Whole}
-use Rattle.text.specs.Machine.{Item, Move, pass, go, ws, byte, text, value, first, next, inner, move, from, run, feed, ends, verdictAt}
+use Rattle.text.specs.Machine.{Item, Move, pass, go, ws, byte, text, value, first, next, inner, move, from, run}
+use Rattle.text.specs.Machine.{feed, ends, verdictAt}
 use Rattle.text.specs.Machine as M
 use Rattle.text.specs.Reading.{Leads, Done}
 use Rattle.text.specs.declared.scan.Shape.{Shape}
@@ -22,7 +26,8 @@ use Rattle.text.proofs.Laws.Eating.{eats-done, word-eats, run-takes}
 use Rattle.text.proofs.Laws.Numbers.{number-eat}
 use Rattle.text.proofs.Laws.Chars.{text-eat}
 use Rattle.text.proofs.Laws.Moves.Bytes.{byte-is}
-use Rattle.text.proofs.Laws.Moves.Values.{first-close, next-close, value-false, value-null, value-opens, value-text, value-true}
+use Rattle.text.proofs.Laws.Moves.Values.{first-close, next-close, value-false, value-null, value-opens}
+use Rattle.text.proofs.Laws.Moves.Values.{value-text, value-true}
 use Rattle.text.proofs.Laws.Moves.Owing.{first-enters}
 use Rattle.text.proofs.Laws.Ends.{ends-calm, ends-rest, ends-more, ends-after}
 use Rattle.text.proofs.Laws.Spaces.{space-done, space-end}
@@ -64,7 +69,12 @@ body-done {s} {w} {i} {e} p =
     record {
       low = omega (arith, p .spelt .order);
       high = omega arith;
-      goes = λ k. ap (λ (x : List ℕ). run (text ∷ k) x (i + 1)) (spelt-drop (p .spelt) ∙ ap (λ (x : List ℕ). w ++ x) (drop-cons s q 0 h ∙ ap (λ (x : ℕ). x ∷ drop (suc q) s) (p .closes .is)))
+      goes =
+          λ k.
+          ap (λ (x : List ℕ). run (text ∷ k) x (i + 1))
+          (spelt-drop (p .spelt)
+          ∙ ap (λ (x : List ℕ). w ++ x)
+          (drop-cons s q 0 h ∙ ap (λ (x : ℕ). x ∷ drop (suc q) s) (p .closes .is)))
           ∙ text-eat (p .body) k (drop (suc q) s) (i + 1)
           ∙ ap (run k (drop (suc q) s)) there
           ∙ ap (λ (n : ℕ). run k (drop n s) e) past;
@@ -75,34 +85,47 @@ quoted-done {s} {w} {i} p =
     seq (takes (byte 34) (text ∷ []) [] (p .opens .inside) (byte-is (getD s i 0) 34 (p .opens .is))) (body-done p)
 
 module _ {s : List ℕ} where
-  eat-byte : {i b : ℕ} (x : Item) (xs ys : List Item) → At s i b → move x b ≡ go xs → Leads s (x ∷ ys) i (xs ++ ys) (i + 1)
+  eat-byte : {i b : ℕ} (x : Item) (xs ys : List Item) → At s i b → move x b ≡ go xs
+      → Leads s (x ∷ ys) i (xs ++ ys) (i + 1)
   eat-byte {i} {b} x xs ys p e = takes x ys xs (p .inside) (ap (move x) (p .is) ∙ e)
 
-  word-done : {i e : ℕ} (n b : ℕ) (w : List ℕ) → Spelt s (b ∷ w) i e → move (value n) b ≡ go (map byte w) → Done s (value n ∷ []) i e
+  word-done : {i e : ℕ} (n b : ℕ) (w : List ℕ) → Spelt s (b ∷ w) i e → move (value n) b ≡ go (map byte w)
+      → Done s (value n ∷ []) i e
   word-done {i} {e} n b w p m =
       eats-done (value n ∷ []) p
-      (λ k at. run-takes (value n) k (w ++ drop e s) at b (map byte w) m ∙ word-eats w (drop e s) k (at + 1) ∙ ap (run k (drop e s)) (omega arith))
+      (λ k at.
+      run-takes (value n) k (w ++ drop e s) at b (map byte w) m
+      ∙ word-eats w (drop e s) k (at + 1)
+      ∙ ap (run k (drop e s)) (omega arith))
 
   -- an opening byte, white space, and what stands behind it
-  open-done : {i j e : ℕ} (sh : Shape) (n b : ℕ) → At s i (M.opener sh) → Space s (i + 1) j → At s j b → move ws b ≡ pass → Done s (first sh n ∷ []) j e → Done s (value (suc n) ∷ []) i e
+  open-done : {i j e : ℕ} (sh : Shape) (n b : ℕ) → At s i (M.opener sh) → Space s (i + 1) j → At s j b
+      → move ws b ≡ pass → Done s (first sh n ∷ []) j e → Done s (value (suc n) ∷ []) i e
   open-done {i} sh n b o w p m r =
       seq (eat-byte (value (suc n)) (ws ∷ first sh n ∷ []) [] o (value-opens (M.opener sh) (suc n) sh refl))
       (seq (frame (first sh n ∷ []) (space-done w p m)) r)
 
   enter-list : {i e : ℕ} (n : ℕ) → Starts s i → Done s (inner a-list n) i e → Done s (first a-list n ∷ []) i e
   enter-list {i} n v r =
-      seq (alike (first a-list n ∷ []) (inner a-list n) (v .at .inside) (first-enters (getD s i 0) a-list n (λ z. v .inner (sym (v .at .is) ∙ z)))) r
+      seq
+      (alike (first a-list n ∷ []) (inner a-list n) (v .at .inside)
+      (first-enters (getD s i 0) a-list n (λ z. v .inner (sym (v .at .is) ∙ z)))) r
 
-  enter-object : {i e : ℕ} (n : ℕ) → At s i 34 → Done s (M.before an-object ++ inner an-object n) i e → Done s (first an-object n ∷ []) i e
+  enter-object : {i e : ℕ} (n : ℕ) → At s i 34 → Done s (M.before an-object ++ inner an-object n) i e
+      → Done s (first an-object n ∷ []) i e
   enter-object {i} n p r =
       let z = p .is in
-      seq (alike (first an-object n ∷ []) (M.before an-object ++ inner an-object n) (p .inside) (first-enters (getD s i 0) an-object n (omega arith))) r
+      seq
+      (alike (first an-object n ∷ []) (M.before an-object ++ inner an-object n) (p .inside)
+      (first-enters (getD s i 0) an-object n (omega arith))) r
 
-  close-done : {i j : ℕ} (sh : Shape) (n : ℕ) → Space s i j → At s j (M.close sh) → move ws (M.close sh) ≡ pass → Done s (ws ∷ next sh n ∷ []) i (j + 1)
+  close-done : {i j : ℕ} (sh : Shape) (n : ℕ) → Space s i j → At s j (M.close sh) → move ws (M.close sh) ≡ pass
+      → Done s (ws ∷ next sh n ∷ []) i (j + 1)
   close-done sh n w p m =
       seq (frame (next sh n ∷ []) (space-done w p m)) (eat-byte (next sh n) [] [] p (next-close (M.close sh) sh n refl))
 
-  comma-done : {i j k b e : ℕ} (sh : Shape) (n : ℕ) → Space s i j → At s j 44 → Space s (j + 1) k → At s k b → move ws b ≡ pass → Done s (M.before sh ++ inner sh n) k e → Done s (ws ∷ next sh n ∷ []) i e
+  comma-done : {i j k b e : ℕ} (sh : Shape) (n : ℕ) → Space s i j → At s j 44 → Space s (j + 1) k → At s k b
+      → move ws b ≡ pass → Done s (M.before sh ++ inner sh n) k e → Done s (ws ∷ next sh n ∷ []) i e
   unfolding move oneOf
   comma-done sh n w o x p m r =
       seq (frame (next sh n ∷ []) (space-done w o refl))
@@ -114,14 +137,16 @@ quote-begins n b e k =
     ap (λ (m : Move). M.onto m k (feed k b)) (value-text b n e)
     ∙ sym (ap (λ (m : Move). M.onto m (text ∷ k) (feed (text ∷ k) b)) (byte-is b 34 e))
 
-pub reads-done : {s : List ℕ} {p : Piece} {i e : ℕ} (n : ℕ) → Reads s p i e → deepness p ≤ n → Stopped s p e → Done s (owed n p) i e
+pub reads-done : {s : List ℕ} {p : Piece} {i e : ℕ} (n : ℕ) → Reads s p i e → deepness p ≤ n → Stopped s p e
+    → Done s (owed n p) i e
 unfolding depth move oneOf
 reads-done n (a-null p) h c = word-done n 110 (117 ∷ 108 ∷ 108 ∷ []) p (value-null 110 n refl)
 reads-done n (a-true p) h c = word-done n 116 (114 ∷ 117 ∷ 101 ∷ []) p (value-true 116 n refl)
 reads-done n (a-false p) h c = word-done n 102 (97 ∷ 108 ∷ 115 ∷ 101 ∷ []) p (value-false 102 n refl)
 reads-done {s} {e = e} n (a-number p w) h c = eats-done (value n ∷ []) p (number-eat n w (drop e s) (ends-calm c))
 reads-done {s} n (a-string {i} p) h c =
-    seq (alike (value n ∷ []) (byte 34 ∷ text ∷ []) (p .opens .inside) (quote-begins n (getD s i 0) (p .opens .is))) (quoted-done p)
+    seq (alike (value n ∷ []) (byte 34 ∷ text ∷ []) (p .opens .inside) (quote-begins n (getD s i 0) (p .opens .is)))
+    (quoted-done p)
 reads-done zero (empty-list o w p) h c = absurd (omega arith)
 reads-done (suc n) (empty-list o w p) h c =
     open-done a-list n 93 o w p refl (eat-byte (first a-list n) [] [] p (first-close 93 a-list n refl))
@@ -158,4 +183,5 @@ text-complete n s t =
     let v = value-starts (p .reads) in
     let w = space-done (p .before) (v .at) (v .black) in
     let r = reads-done n (p .reads) (t .shallow) (ends-after (p .after)) in
-    seq (frame (value n ∷ ws ∷ []) w) (seq (frame (ws ∷ []) r) (space-end (p .after))) .goes [] ∙ from-empty [] s (length s) refl
+    seq (frame (value n ∷ ws ∷ []) w) (seq (frame (ws ∷ []) r) (space-end (p .after))) .goes []
+    ∙ from-empty [] s (length s) refl

@@ -5,7 +5,8 @@ use Prim.Native.Nat.{ℕ, _+_, _-_, _≤_, _<_}
 use native.Mathlib.Omega.{arith}
 use lib.ListN.{length, drop}
 use Rattle.text.specs.Base.{part}
-use Rattle.text.specs.Json.{Json, Values, Members, null, string, levels, Quoted, a-value, Reads, a-string, JsonText}
+use Rattle.text.specs.Json.{Json, Values, Members, null, string, levels, Quoted, a-value, Reads, a-string}
+use Rattle.text.specs.Json.{JsonText}
 use Rattle.text.specs.Machine.{Item, ws, byte, text, value, verdict}
 use Rattle.text.specs.Reading.{Done, Falls}
 use Rattle.text.specs.Verdicts.{Text}
@@ -66,14 +67,20 @@ text-stands s i d x =
     let p = x .says in
     let b = value-starts (p .reads) in
     let z = space-is d (p .before) (b .at) (b .black) in
-    record { reads = subst (λ (n : ℕ). Reads s (a-value (x .tree)) n (p .past)) z (p .reads); ends = ends-after (p .after); shallow = x .shallow }
+    record {
+      reads = subst (λ (n : ℕ). Reads s (a-value (x .tree)) n (p .past)) z (p .reads);
+      ends = ends-after (p .after);
+      shallow = x .shallow;
+    }
 
 pub root-is : (s : List ℕ) (i : ℕ) → verdict s ≡ Whole → Done s (ws ∷ []) 0 i → Rooted s i
 root-is s i e d =
     let x = text-sound levels s e in
     record {
       stop = x .says .past;
-      stands = λ t p. subst (λ (u : Json). Stands s u i (x .says .past)) (text-unique s (x .tree) t (x .says) p) (text-stands s i d x);
+      stands = λ t p.
+          subst (λ (u : Json). Stands s u i (x .says .past)) (text-unique s (x .tree) t (x .says) p)
+          (text-stands s i d x);
     }
 
 -- ---- the tree as a function: null where the text is not whole

@@ -8,7 +8,8 @@ use mathlib.Core.Logic.{_⊎_, inl, inr, ⊎-elim}
 use lib.ListN.{length, drop}
 use lib.Seq.{drop-cons, drop-length}
 use Rattle.text.specs.Base.{At}
-use Rattle.text.specs.Json.{Values, Members, White, tab, line-feed, carriage-return, space, Space, no-space, white, rest, more, Reads, close-list, comma-list, close-object, comma-object}
+use Rattle.text.specs.Json.{Values, Members, White, tab, line-feed, carriage-return, space, Space, no-space}
+use Rattle.text.specs.Json.{white, rest, more, Reads, close-list, comma-list, close-object, comma-object}
 use Rattle.text.specs.Contents.{Ends, with-text, before}
 use Rattle.text.specs.Machine.{pass, move, optional}
 use Rattle.text.specs.Machine as M
@@ -19,7 +20,8 @@ use Rattle.text.proofs.Laws.Moves.Numbers.{digits-over, digits-under, e
 pub ends-calm : {s : List ℕ} {e : ℕ} → Ends s e → Calm (drop e s)
 unfolding Passed optional
 ends-calm {s} {e} (with-text q) =
-    subst Calm (sym (ap (λ (n : ℕ). drop n s) q ∙ drop-length s)) record { on-digits = refl; on-fraction = refl; on-exponent = refl }
+    subst Calm (sym (ap (λ (n : ℕ). drop n s) q ∙ drop-length s))
+    record { on-digits = refl; on-fraction = refl; on-exponent = refl }
 ends-calm {s} {e} (before {b} p n f u l) =
     subst Calm (sym (drop-cons s e 0 (p .inside)))
     record {

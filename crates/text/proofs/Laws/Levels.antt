@@ -16,7 +16,11 @@ use Rattle.text.specs.declared.scan.Shape.the-variants.{List as list, Ob
 use Rattle.text.specs.declared.scan.Verdict.{Verdict}
 use Rattle.text.specs.declared.scan.Verdict.the-variants.{Deep}
 use Rattle.text.proofs.Laws.Moves.Values.{first-close}
-use Rattle.text.proofs.Laws.Live.{Lax, l-ws, l-digits, l-fraction, l-exponent, Shut, s-byte, s-range, s-hex, s-text, s-escape, s-digit, s-sign, s-first, s-next, Calm, calm-close, calm-quote, Ends, ends-lax, ends-shut, Kin, none, lax, shut, an-integer, a-value, kin-ends-more, kin-text, kin-tail, kin-hex, kin-digit, kin-word, kin-first, kin-next, kin-inner, kin-name, kin-start}
+use Rattle.text.proofs.Laws.Live.{Lax, l-ws, l-digits, l-fraction, l-exponent, Shut, s-byte, s-range, s-hex}
+use Rattle.text.proofs.Laws.Live.{s-text, s-escape, s-digit, s-sign, s-first, s-next, Calm, calm-close}
+use Rattle.text.proofs.Laws.Live.{calm-quote, Ends, ends-lax, ends-shut, Kin, none, lax, shut, an-integer}
+use Rattle.text.proofs.Laws.Live.{a-value, kin-ends-more, kin-text, kin-tail, kin-hex, kin-digit, kin-word}
+use Rattle.text.proofs.Laws.Live.{kin-first, kin-next, kin-inner, kin-name, kin-start}
 
 pub data Keeps : Move → Move → Type 0 where
   both-pass : Keeps pass pass

@@ -53,13 +53,17 @@ module _ (s : List ℕ) (i : ℕ) (v r : List ℕ) (q : drop i s ≡ v ++ (10 �
   line-next : drop (i + length v + 1) s ≡ r
   line-next =
       let k : i + (length v + 1) ≡ i + length v + 1 = omega arith in
-      ap (λ (n : ℕ). drop n s) (sym k) ∙ sym (drop-drop (length v + 1) i s) ∙ ap (drop (length v + 1)) q ∙ rw (drop-append-add v (10 ∷ r) 1)
+      ap (λ (n : ℕ). drop n s) (sym k)
+      ∙ sym (drop-drop (length v + 1) i s)
+      ∙ ap (drop (length v + 1)) q
+      ∙ rw (drop-append-add v (10 ∷ r) 1)
 
   line-inside : i + length v < length s
   line-inside = let l = sym (length-drop i s) ∙ ap length q ∙ length-append v (10 ∷ r) in omega arith
 
 -- the line found, and the lines from the next place on, are the lines from here on
-pub line-here : (s : List ℕ) (i e n : ℕ) (ls : List (List ℕ)) → lineAt s i ≡ Here e n → Lines (drop n s) ls → Lines (drop i s) (part s i e ∷ ls)
+pub line-here : (s : List ℕ) (i e n : ℕ) (ls : List (List ℕ)) → lineAt s i ≡ Here e n → Lines (drop n s) ls
+    → Lines (drop i s) (part s i e ∷ ls)
 line-here s i e n ls q r = by (decLt i (length s))
   where
     ended : i < length s → e ≡ length s → n ≡ length s → Unbroken (drop i s) → Lines (drop i s) (part s i e ∷ ls)
@@ -70,9 +74,11 @@ line-here s i e n ls q r = by (decLt i (length s))
         subst (λ (x : List (List ℕ)). Lines (drop i s) (part s i e ∷ x)) (sym z)
         (subst (λ (x : List ℕ). Lines (drop i s) (x ∷ [])) (sym w) (last-line (drop i s) (omega arith) u))
 
-    broken : (v t : List ℕ) → drop i s ≡ v ++ (10 ∷ t) → Unbroken v → e ≡ i + length v → n ≡ i + length v + 1 → Lines (drop i s) (part s i e ∷ ls)
+    broken : (v t : List ℕ) → drop i s ≡ v ++ (10 ∷ t) → Unbroken v → e ≡ i + length v → n ≡ i + length v + 1
+        → Lines (drop i s) (part s i e ∷ ls)
     broken v t z u a b =
-        let tail : Lines t ls = subst (λ (x : List ℕ). Lines x ls) (ap (λ (k : ℕ). drop k s) b ∙ line-next s i v t z) r in
+        let tail : Lines t ls =
+        subst (λ (x : List ℕ). Lines x ls) (ap (λ (k : ℕ). drop k s) b ∙ line-next s i v t z) r in
         let w : v ≡ part s i e = sym (ap (part s i) a ∙ line-part s i v t z) in
         subst (λ (x : List ℕ). Lines x (part s i e ∷ ls)) (sym z)
         (subst (λ (x : List ℕ). Lines (v ++ (10 ∷ t)) (x ∷ ls)) w (line u tail))
@@ -80,13 +86,15 @@ line-here s i e n ls q r = by (decLt i (length s))
     cases : i < length s → Cut (drop i s) → Lines (drop i s) (part s i e ∷ ls)
     cases h (all u z) =
         let l = length-drop i s in
-        let p : Here (i + unbroken (drop i s)) (i + unbroken (drop i s)) ≡ Here e n = line-last s i _ h refl (omega arith) ∙ q in
+        let p : Here (i + unbroken (drop i s)) (i + unbroken (drop i s)) ≡ Here e n =
+        line-last s i _ h refl (omega arith) ∙ q in
         let a : i + unbroken (drop i s) ≡ e = cc in
         let b : i + unbroken (drop i s) ≡ n = cc in
         ended h (omega arith) (omega arith) u
     cases h (before v t y u z) =
         let g = line-inside s i v t y in
-        let p : Here (i + unbroken (drop i s)) (i + unbroken (drop i s) + 1) ≡ Here e n = line-lf s i _ h refl (omega arith) ∙ q in
+        let p : Here (i + unbroken (drop i s)) (i + unbroken (drop i s) + 1) ≡ Here e n =
+        line-lf s i _ h refl (omega arith) ∙ q in
         let a : i + unbroken (drop i s) ≡ e = cc in
         let b : i + unbroken (drop i s) + 1 ≡ n = cc in
         broken v t y u (omega arith) (omega arith)
@@ -148,7 +156,8 @@ line-ahead s i e n q = by (decLt i (length s)) (decLt (i + unbroken (drop i s)) 
         let b : i + unbroken (drop i s) + 1 ≡ n = cc in
         record { order = omega arith; inside = omega arith; next = omega arith; later = omega arith }
     by (yes h) (no g) =
-        let p : Here (i + unbroken (drop i s)) (i + unbroken (drop i s)) ≡ Here e n = line-last s i _ h refl (omega arith) ∙ q in
+        let p : Here (i + unbroken (drop i s)) (i + unbroken (drop i s)) ≡ Here e n =
+        line-last s i _ h refl (omega arith) ∙ q in
         let a : i + unbroken (drop i s) ≡ e = cc in
         let b : i + unbroken (drop i s) ≡ n = cc in
         let u = unbroken-within (drop i s) in

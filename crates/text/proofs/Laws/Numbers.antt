@@ -7,11 +7,14 @@ use native.Mathlib.Omega.{arith}
 use types.Run.{OneOf}
 use lib.ListN.{length, length-append}
 use Rattle.text.specs.Base.{In}
-use Rattle.text.specs.Json.{Digits, no-digit, digit, Digits₁, digits, Int, zero, from-1-9, Frac, no-frac, frac, Sign, no-sign, plus, minus, Exp, no-exp, upper, lower, Number, unsigned, negative}
+use Rattle.text.specs.Json.{Digits, no-digit, digit, Digits₁, digits, Int, zero, from-1-9, Frac, no-frac, frac}
+use Rattle.text.specs.Json.{Sign, no-sign, plus, minus, Exp, no-exp, upper, lower, Number, unsigned, negative}
 use Rattle.text.specs.Machine.{Item, go, integer, fraction, exponent, sign, value, move, run}
 use Rattle.text.specs.Machine as M
 use Rattle.text.proofs.Laws.Eating.{Eats, Passed, Calm, run-takes, run-alike, passed-eats}
-use Rattle.text.proofs.Laws.Moves.Numbers.{digit-is, digits-is, digits-over, digits-under, exponent-is, fraction-is, fraction-not, integer-more, integer-zero, sign-is, sign-not}
+use Rattle.text.proofs.Laws.Moves.Numbers.{digit-is, digits-is, digits-over, digits-under, exponent-is}
+use Rattle.text.proofs.Laws.Moves.Numbers.{fraction-is, fraction-not, integer-more, integer-zero, sign-is}
+use Rattle.text.proofs.Laws.Moves.Numbers.{sign-not}
 use Rattle.text.proofs.Laws.Moves.Values.{value-digit, value-minus}
 
 -- two lengths behind a place, as one
@@ -34,14 +37,16 @@ digits₁-eat (digits {d} {ds} h t) r p k at =
 unsign : (d : ℕ) → In 48 57 d → OneOf (43 ∷ 45 ∷ []) d → ⊥
 unsign d h = ⊎-elim (λ e. let z = h .low in omega arith) (λ e. let z = h .low in omega arith)
 
-sign-eat : {w ds : List ℕ} → Sign w → Digits₁ ds → (r : List ℕ) (k : List Item) (at : ℕ) → run (sign ∷ k) ((w ++ ds) ++ r) at ≡ run k (ds ++ r) (at + length w)
+sign-eat : {w ds : List ℕ} → Sign w → Digits₁ ds → (r : List ℕ) (k : List Item) (at : ℕ)
+    → run (sign ∷ k) ((w ++ ds) ++ r) at ≡ run k (ds ++ r) (at + length w)
 unfolding Passed
 sign-eat no-sign (digits {d} {ds} h t) r k at = passed-eats sign (d ∷ (ds ++ r)) (sign-not d (unsign d h)) k at
 sign-eat {ds = ds} plus t r k at = run-takes sign k (ds ++ r) at 43 [] (sign-is 43 (inl refl))
 sign-eat {ds = ds} minus t r k at = run-takes sign k (ds ++ r) at 45 [] (sign-is 45 (inr refl))
 
 -- the letter and what it owes
-power-eat : (b : ℕ) {w ds : List ℕ} → OneOf (69 ∷ 101 ∷ []) b → Sign w → Digits₁ ds → (r : List ℕ) → Passed M.digits r → Eats (exponent ∷ []) (b ∷ (w ++ ds)) r
+power-eat : (b : ℕ) {w ds : List ℕ} → OneOf (69 ∷ 101 ∷ []) b → Sign w → Digits₁ ds → (r : List ℕ) → Passed M.digits r
+    → Eats (exponent ∷ []) (b ∷ (w ++ ds)) r
 power-eat b {w} {ds} h s d r p k at =
     run-takes exponent k ((w ++ ds) ++ r) at b (sign ∷ M.digit ∷ M.digits ∷ []) (exponent-is b h)
     ∙ sign-eat s d r (M.digit ∷ M.digits ∷ k) (at + 1)
@@ -103,7 +108,8 @@ int-eat {f = f} {x = x} (from-1-9 {d} {ds} h t) p e r c k at =
     more h = let l = h .low in let u = h .high in integer-more d (omega arith) (omega arith) (omega arith)
 
 -- a number's first digit begins it as a value does
-digit-begins : {i : List ℕ} (n : ℕ) → Int i → (r : List ℕ) (k : List Item) (at : ℕ) → run (value n ∷ k) (i ++ r) at ≡ run (integer ∷ k) (i ++ r) at
+digit-begins : {i : List ℕ} (n : ℕ) → Int i → (r : List ℕ) (k : List Item) (at : ℕ)
+    → run (value n ∷ k) (i ++ r) at ≡ run (integer ∷ k) (i ++ r) at
 digit-begins n zero r k at = run-alike (value n) k r at 48 integer (value-digit 48 n (omega arith) (omega arith))
 digit-begins n (from-1-9 {d} {ds} h t) r k at =
     run-alike (value n) k (ds ++ r) at d integer

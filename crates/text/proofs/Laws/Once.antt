@@ -4,7 +4,9 @@ use mathlib.Core.List.{List, [], _∷_}
 use Prim.Native.Nat.{ℕ, _+_}
 use native.Mathlib.Omega.{arith}
 use Rattle.text.specs.Base.{At, part, oneOf}
-use Rattle.text.specs.Json.{Json, Members, named, Space, Quoted, Piece, a-value, members, more, Reads, a-null, a-true, a-false, a-number, a-string, empty-list, some-list, element, close-list, comma-list, empty-object, some-object, member, close-object, comma-object, JsonText}
+use Rattle.text.specs.Json.{Json, Members, named, Space, Quoted, Piece, a-value, members, more, Reads, a-null}
+use Rattle.text.specs.Json.{a-true, a-false, a-number, a-string, empty-list, some-list, element, close-list}
+use Rattle.text.specs.Json.{comma-list, empty-object, some-object, member, close-object, comma-object, JsonText}
 use Rattle.text.specs.Machine.{byte, text, move}
 use Rattle.text.proofs.Laws.Places.{done-unique}
 use Rattle.text.proofs.Laws.Parts.{spelt-first}
@@ -14,7 +16,9 @@ use Rattle.text.proofs.Laws.Spaces.{space-once}
 use Rattle.text.proofs.Laws.Starts.{Starts, value-starts}
 use Rattle.text.proofs.Laws.Once.Readings.{Same, Once, moved}
 use Rattle.text.proofs.Laws.Once.Leaves.{opens-not, number-opens, flat-once}
-use Rattle.text.proofs.Laws.Once.Inner.{empty-list-once, some-list-once, empty-object-once, some-object-once, element-once, close-list-once, comma-list-once, close-object-once, comma-object-once}
+use Rattle.text.proofs.Laws.Once.Inner.{empty-list-once, some-list-once, empty-object-once, some-object-once}
+use Rattle.text.proofs.Laws.Once.Inner.{element-once, close-list-once, comma-list-once, close-object-once}
+use Rattle.text.proofs.Laws.Once.Inner.{comma-object-once}
 pub mod Inner
 pub mod Leaves
 pub mod Readings
@@ -29,9 +33,12 @@ module _ {s : List ℕ} where
       let k : p .close ≡ q .close = omega arith in
       record { what = sym (p .spelt .is) ∙ ap (part s (i + 1)) k ∙ q .spelt .is; stop = z }
 
-  member-once : {i q c v j e : ℕ} {w : List ℕ} {t : Json} {ms : Members} → Quoted s w i q → Space s q c → At s c 58 → Space s (c + 1) v → Starts s v → Once s (a-value t) v j → Once s (more ms) j e → Once s (members (named w t ms)) i e
+  member-once : {i q c v j e : ℕ} {w : List ℕ} {t : Json} {ms : Members} → Quoted s w i q → Space s q c → At s c 58
+      → Space s (c + 1) v → Starts s v → Once s (a-value t) v j → Once s (more ms) j e
+      → Once s (members (named w t ms)) i e
   unfolding move oneOf
-  member-once {q = q} {c = c} {v = v} {w = w} {t = t} {ms = ms} n x o y b on go u f (member {q = q′} {c = c′} {v = v′} {j = j′} {w = w′} {t = t′} {ms = ms′} n′ x′ o′ y′ r p) =
+  member-once {q = q} {c = c} {v = v} {w = w} {t = t} {ms = ms} n x o y b on go u f
+      (member {q = q′} {c = c′} {v = v′} {j = j′} {w = w′} {t = t′} {ms = ms′} n′ x′ o′ y′ r p) =
       let d = quoted-once n′ n in
       let g = space-once (subst (λ (k : ℕ). Space s k c′) (d .stop) x′) o′ refl x o refl in
       let a = value-starts r in
@@ -39,7 +46,9 @@ module _ {s : List ℕ} where
       let m = on t′ j′ (moved (a-value t′) h r) (ends-more p) in
       let z = go ms′ f (moved (more ms′) (sym (m .stop)) p) in
       record {
-        what = ap (λ (k : List ℕ). named k t ms) (sym (d .what)) ∙ ap (λ (k : Json). named w′ k ms) (m .what) ∙ ap (named w′ t′) (z .what);
+        what = ap (λ (k : List ℕ). named k t ms) (sym (d .what))
+            ∙ ap (λ (k : Json). named w′ k ms) (m .what)
+            ∙ ap (named w′ t′) (z .what);
         stop = z .stop;
       }
 

@@ -56,7 +56,9 @@ spelt-append {s} {w} {v} {i} {j} {e} p q =
     record {
       order = omega (arith, p .order, q .order);
       inside = q .inside;
-      is = sym (part-append s i j e (p .order) (q .order)) ∙ ap (λ (l : List ℕ). l ++ part s j e) (p .is) ∙ ap (λ (l : List ℕ). w ++ l) (q .is);
+      is = sym (part-append s i j e (p .order) (q .order))
+          ∙ ap (λ (l : List ℕ). l ++ part s j e) (p .is)
+          ∙ ap (λ (l : List ℕ). w ++ l) (q .is);
     }
 
 pub spelt-cons : {s w : List ℕ} {i b e : ℕ} → At s i b → Spelt s w (i + 1) e → Spelt s (b ∷ w) i e

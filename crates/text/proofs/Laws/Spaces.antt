@@ -46,7 +46,8 @@ space-low (no-space h) = omega arith
 space-low (white p v r) = let z = space-low r in omega arith
 
 -- white space ends at one place, before what is none
-pub space-once : {s : List ℕ} {i j k b c : ℕ} → Space s i j → At s j b → move ws b ≡ pass → Space s i k → At s k c → move ws c ≡ pass → j ≡ k
+pub space-once : {s : List ℕ} {i j k b c : ℕ} → Space s i j → At s j b → move ws b ≡ pass → Space s i k → At s k c
+    → move ws c ≡ pass → j ≡ k
 space-once w p m x q n = done-unique (ws ∷ []) (space-done w p m) (space-done x q n)
 
 -- white space behind a place, as the code finds it and as the grammar has it

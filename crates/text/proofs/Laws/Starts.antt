@@ -6,7 +6,9 @@ use native.Mathlib.Omega.{arith}
 use types.Run.{OneOf}
 use mathlib.Core.Logic.{⊎-elim}
 use Rattle.text.specs.Base.{At, oneOf}
-use Rattle.text.specs.Json.{Json, Values, Members, zero, from-1-9, Number, unsigned, negative, Spelt, a-value, elements, members, Reads, a-null, a-true, a-false, a-number, a-string, empty-list, some-list, element, empty-object, some-object, member}
+use Rattle.text.specs.Json.{Json, Values, Members, zero, from-1-9, Number, unsigned, negative, Spelt, a-value}
+use Rattle.text.specs.Json.{elements, members, Reads, a-null, a-true, a-false, a-number, a-string, empty-list}
+use Rattle.text.specs.Json.{some-list, element, empty-object, some-object, member}
 use Rattle.text.specs.Machine.{pass, ws, first, inner, move}
 use Rattle.text.proofs.Laws.Parts.{spelt-first}
 use Rattle.text.proofs.Laws.Moves.Bytes.{ws-over}

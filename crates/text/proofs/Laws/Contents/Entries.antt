@@ -23,7 +23,8 @@ pub record Headed (s : List ℕ) (ms : Members) (i e q : ℕ) : Type 0 where
   pub colon : (c : ℕ) → Done s (ws ∷ []) q c → At s c 58
   pub leader : (c v : ℕ) → Done s (ws ∷ []) q c → Done s (ws ∷ []) (c + 1) v → Leader s i ms e (i + 1) (q - 1) v
 
-entry-reads : {s : List ℕ} {i e : ℕ} {ms : Members} → depthm ms ≤ levels → Reads s (members ms) i e → Some ℕ (λ q n. Headed s ms i e q)
+entry-reads : {s : List ℕ} {i e : ℕ} {ms : Members} → depthm ms ≤ levels → Reads s (members ms) i e
+    → Some ℕ (λ q n. Headed s ms i e q)
 unfolding depth move oneOf
 entry-reads {s} {i} {e} h (member {q = q} {c = c} {v = v} {j = j} {t = t} {ms = ms} n w o x r m) =
     let d = body-done n in
@@ -46,7 +47,11 @@ entry-reads {s} {i} {e} h (member {q = q} {c = c} {v = v} {j = j} {t = t} {ms = 
               order = omega (arith, n .spelt .order);
               inside = omega (arith, n .closes .inside);
               stop = j;
-              stands = record { reads = subst (λ (a : ℕ). Reads s (a-value t) a j) u r; ends = ends-more m; shallow = omega arith };
+              stands = record {
+                reads = subst (λ (a : ℕ). Reads s (a-value t) a j) u r;
+                ends = ends-more m;
+                shallow = omega arith;
+              };
               follows = record { reads = m; shallow = omega arith };
               later = omega (arith, d .low, g .low, f .low);
             };
@@ -54,7 +59,8 @@ entry-reads {s} {i} {e} h (member {q = q} {c = c} {v = v} {j = j} {t = t} {ms = 
     }
 
 -- whatever place the code finds for the end of the name
-pub entry-headed : {s : List ℕ} {i e q : ℕ} {ms : Members} → Entry s ms i e → Done s (text ∷ []) (i + 1) q → Headed s ms i e q
+pub entry-headed : {s : List ℕ} {i e q : ℕ} {ms : Members} → Entry s ms i e → Done s (text ∷ []) (i + 1) q
+    → Headed s ms i e q
 entry-headed {s} {i} {e} {q} {ms} p d =
     let r = entry-reads (p .shallow) (p .reads) in
     subst (Headed s ms i e) (done-unique (text ∷ []) (r .is .name-done) d) (r .is)
@@ -65,7 +71,8 @@ entry-done p = entry-reads (p .shallow) (p .reads)
 pub entry-inside : {s : List ℕ} {i e : ℕ} {ms : Members} → Entry s ms i e → i < length s
 entry-inside p = members-start (p .reads) .inside
 
-pub leads-later : (s : List ℕ) (i k : ℕ) (ms : Members) (e : ℕ) (r : Member) → i ≤ k → Leads s k ms e r → Leads s i ms e r
+pub leads-later : (s : List ℕ) (i k : ℕ) (ms : Members) (e : ℕ) (r : Member) → i ≤ k → Leads s k ms e r
+    → Leads s i ms e r
 leads-later s i k ms e (M.Named n m v) h p =
     record {
       head = p .head;

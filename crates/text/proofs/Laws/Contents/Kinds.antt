@@ -7,7 +7,8 @@ use lib.Dec.{eqb}
 use lib.ListN.{getD}
 use borrow.Author.Tests.{ne-eqb}
 use Rattle.text.specs.Base.{pick}
-use Rattle.text.specs.Json.{Json, Number, unsigned, negative, zero, from-1-9, Spelt, a-value, Reads, a-null, a-true, a-false, a-number, a-string, empty-list, some-list, empty-object, some-object}
+use Rattle.text.specs.Json.{Json, Number, unsigned, negative, zero, from-1-9, Spelt, a-value, Reads, a-null}
+use Rattle.text.specs.Json.{a-true, a-false, a-number, a-string, empty-list, some-list, empty-object, some-object}
 use Rattle.text.specs.Contents.{Stands, kindOf}
 use Rattle.text.specs.declared.walk.Kind.{Kind}
 use Rattle.text.specs.declared.walk.Kind.the-variants as K
@@ -22,7 +23,8 @@ kindBy b =
     (pick (eqb b 116) K.True
     (pick (eqb b 123) K.Object K.Number)))))
 
-kind-number : (b : ℕ) → (b ≡ 34 → ⊥) → (b ≡ 91 → ⊥) → (b ≡ 102 → ⊥) → (b ≡ 110 → ⊥) → (b ≡ 116 → ⊥) → (b ≡ 123 → ⊥) → kindBy b ≡ K.Number
+kind-number : (b : ℕ) → (b ≡ 34 → ⊥) → (b ≡ 91 → ⊥) → (b ≡ 102 → ⊥) → (b ≡ 110 → ⊥) → (b ≡ 116 → ⊥) → (b ≡ 123 → ⊥)
+    → kindBy b ≡ K.Number
 unfolding kindBy
 kind-number b n1 n2 n3 n4 n5 n6 =
     rw (ne-eqb b 34 n1, ne-eqb b 91 n2, ne-eqb b 102 n3, ne-eqb b 110 n4, ne-eqb b 116 n5, ne-eqb b 123 n6)
@@ -52,5 +54,6 @@ module _ {s : List ℕ} {t : Json} {v e : ℕ} (p : Stands s t v e) where
   pub kind-is : (b : ℕ) (k : Kind) → kindBy b ≡ k → getD s v 0 ≡ b → k ≡ kindOf t
   kind-is b k m z = sym m ∙ ap kindBy (sym z) ∙ kind-first (p .reads)
 
-  pub kind-else : (getD s v 0 ≡ 34 → ⊥) → (getD s v 0 ≡ 91 → ⊥) → (getD s v 0 ≡ 102 → ⊥) → (getD s v 0 ≡ 110 → ⊥) → (getD s v 0 ≡ 116 → ⊥) → (getD s v 0 ≡ 123 → ⊥) → K.Number ≡ kindOf t
+  pub kind-else : (getD s v 0 ≡ 34 → ⊥) → (getD s v 0 ≡ 91 → ⊥) → (getD s v 0 ≡ 102 → ⊥) → (getD s v 0 ≡ 110 → ⊥)
+      → (getD s v 0 ≡ 116 → ⊥) → (getD s v 0 ≡ 123 → ⊥) → K.Number ≡ kindOf t
   kind-else a b c d f g = sym (kind-number (getD s v 0) a b c d f g) ∙ kind-first (p .reads)

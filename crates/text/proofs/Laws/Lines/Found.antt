@@ -15,11 +15,14 @@ pub unbroken-lf : (s : List ℕ) (i : ℕ) → i < length s → getD s i 0 ≡ 1
 unfolding unbroken
 unbroken-lf s i h e = ap unbroken (drop-cons s i 0 h) ∙ rw (eq-eqb (getD s i 0) 10 e)
 
-pub unbroken-more : (s : List ℕ) (i : ℕ) → i < length s → (getD s i 0 ≡ 10 → ⊥) → i + unbroken (drop i s) ≡ i + 1 + unbroken (drop (i + 1) s)
+pub unbroken-more : (s : List ℕ) (i : ℕ) → i < length s → (getD s i 0 ≡ 10 → ⊥)
+    → i + unbroken (drop i s) ≡ i + 1 + unbroken (drop (i + 1) s)
 unfolding unbroken
 unbroken-more s i h n =
-    let one : unbroken (drop i s) ≡ suc (unbroken (drop (suc i) s)) = ap unbroken (drop-cons s i 0 h) ∙ rw (ne-eqb (getD s i 0) 10 n) in
-    let same : unbroken (drop (suc i) s) ≡ unbroken (drop (i + 1) s) = ap (λ (k : ℕ). unbroken (drop k s)) (sym (add-one i)) in
+    let one : unbroken (drop i s) ≡ suc (unbroken (drop (suc i) s)) =
+    ap unbroken (drop-cons s i 0 h) ∙ rw (ne-eqb (getD s i 0) 10 n) in
+    let same : unbroken (drop (suc i) s) ≡ unbroken (drop (i + 1) s) =
+    ap (λ (k : ℕ). unbroken (drop k s)) (sym (add-one i)) in
     omega (arith, one, same)
 
 pub unbroken-end : (s : List ℕ) (i : ℕ) → length s ≤ i → unbroken (drop i s) ≡ 0
@@ -32,10 +35,12 @@ pub line-some : (s : List ℕ) (i e : ℕ) → i < length s → e ≡ i + unbrok
 unfolding lineAt
 line-some s i e h z = rw (lt-ltb i (length s) h) (ap (lineTo s) z)
 
-pub line-lf : (s : List ℕ) (i e : ℕ) → i < length s → e ≡ i + unbroken (drop i s) → e < length s → Here e (e + 1) ≡ lineAt s i
+pub line-lf : (s : List ℕ) (i e : ℕ) → i < length s → e ≡ i + unbroken (drop i s) → e < length s
+    → Here e (e + 1) ≡ lineAt s i
 line-lf s i e h z g = sym (rw (lt-ltb e (length s) g)) ∙ line-some s i e h z
 
-pub line-last : (s : List ℕ) (i e : ℕ) → i < length s → e ≡ i + unbroken (drop i s) → length s ≤ e → Here e e ≡ lineAt s i
+pub line-last : (s : List ℕ) (i e : ℕ) → i < length s → e ≡ i + unbroken (drop i s) → length s ≤ e
+    → Here e e ≡ lineAt s i
 line-last s i e h z g = sym (rw (le-ltb e (length s) g)) ∙ line-some s i e h z
 
 pub line-over : (s : List ℕ) (i : ℕ) → length s ≤ i → None ≡ lineAt s i
@@ -50,7 +55,8 @@ cut-cons : (b : ℕ) (w : List ℕ) → Dec (b ≡ 10) → Cut w → Cut (b ∷ 
 unfolding unbroken
 cut-cons b w (yes e) c = before [] w (ap (λ (x : ℕ). x ∷ w) e) none (rw (eq-eqb b 10 e))
 cut-cons b w (no n) (all u z) = all (more n u) (rw (ne-eqb b 10 n) (ap suc z))
-cut-cons b w (no n) (before v r q u z) = before (b ∷ v) r (ap (λ (l : List ℕ). b ∷ l) q) (more n u) (rw (ne-eqb b 10 n) (ap suc z))
+cut-cons b w (no n) (before v r q u z) =
+    before (b ∷ v) r (ap (λ (l : List ℕ). b ∷ l) q) (more n u) (rw (ne-eqb b 10 n) (ap suc z))
 
 pub cut : (w : List ℕ) → Cut w
 unfolding unbroken

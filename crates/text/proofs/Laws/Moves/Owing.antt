@@ -5,7 +5,8 @@ use mathlib.Core.List.{List, [], _∷_, _++_, append-assoc}
 use Prim.Native.Nat.{ℕ, zero, suc}
 use lib.Dec.{eqb}
 use Rattle.text.specs.Base.{pick, within}
-use Rattle.text.specs.Machine.{Item, Move, pass, bad, deep, go, ws, byte, text, char, value, first, next, close, before, inner, leads, high, onto, owing, opens, begins, move, feed}
+use Rattle.text.specs.Machine.{Item, Move, pass, bad, deep, go, ws, byte, text, char, value, first, next, close}
+use Rattle.text.specs.Machine.{before, inner, leads, high, onto, owing, opens, begins, move, feed}
 use Rattle.text.specs.declared.scan.Shape.{Shape}
 use Rattle.text.specs.declared.scan.Shape.the-variants.{List as list, Object as object}
 use Rattle.text.proofs.Laws.Moves.Bytes.{byte-moves}
@@ -68,17 +69,24 @@ text-one b h k =
     ∙ owing-onto (move char b) (text ∷ []) k (feed k b) (feed (text ∷ k) b) (char-firm b)
 
 -- what closes no list or object enters its first inner value
-pub first-enters : (b : ℕ) (sh : Shape) (n : ℕ) → (b ≡ close sh → ⊥) → (k : List Item) → feed (first sh n ∷ k) b ≡ feed ((before sh ++ inner sh n) ++ k) b
+pub first-enters : (b : ℕ) (sh : Shape) (n : ℕ) → (b ≡ close sh → ⊥) → (k : List Item)
+    → feed (first sh n ∷ k) b ≡ feed ((before sh ++ inner sh n) ++ k) b
 unfolding feed
 first-enters b list n h k =
-    ap (λ (m : Move). onto m k (feed k b)) (first-not b list n h ∙ ap (λ (m : Move). owing m (ws ∷ next list n ∷ [])) (sym (value-is b n)))
-    ∙ owing-onto (move (value n) b) (ws ∷ next list n ∷ []) k (feed k b) (feed (ws ∷ next list n ∷ k) b) (value-firm n b)
-first-enters b object n h k = ap (λ (m : Move). onto m k (feed k b)) (first-not b object n h) ∙ by (eqb b 34) ∙ ap (λ (m : Move). onto m (behind ++ k) (feed (behind ++ k) b)) (sym (byte-moves b 34))
+    ap (λ (m : Move). onto m k (feed k b))
+    (first-not b list n h ∙ ap (λ (m : Move). owing m (ws ∷ next list n ∷ [])) (sym (value-is b n)))
+    ∙ owing-onto (move (value n) b) (ws ∷ next list n ∷ []) k (feed k b) (feed (ws ∷ next list n ∷ k) b)
+    (value-firm n b)
+first-enters b object n h k =
+    ap (λ (m : Move). onto m k (feed k b)) (first-not b object n h)
+    ∙ by (eqb b 34)
+    ∙ ap (λ (m : Move). onto m (behind ++ k) (feed (behind ++ k) b)) (sym (byte-moves b 34))
   where
     behind : List Item
     behind = text ∷ ws ∷ byte 58 ∷ ws ∷ inner object n
 
-    by : (t : Bool) → onto (pick t (go behind) bad) k (feed k b) ≡ onto (pick t (go []) bad) (behind ++ k) (feed (behind ++ k) b)
+    by : (t : Bool)
+        → onto (pick t (go behind) bad) k (feed k b) ≡ onto (pick t (go []) bad) (behind ++ k) (feed (behind ++ k) b)
     by true = refl
     by false = refl
 

@@ -7,7 +7,8 @@ use native.Mathlib.Omega.{arith}
 use borrow.Author.Tests.{eq-eqb, ne-eqb}
 use mathlib.Core.Logic.{inl, inr, _⊎_}
 use Rattle.text.specs.Base.{within}
-use Rattle.text.specs.Machine.{bad, go, ws, byte, text, integer, value, first, next, close, before, inner, opener, opens, begins, enters, move}
+use Rattle.text.specs.Machine.{bad, go, ws, byte, text, integer, value, first, next, close, before, inner, opener}
+use Rattle.text.specs.Machine.{opens, begins, enters, move}
 use Rattle.text.specs.declared.scan.Shape.{Shape}
 use Rattle.text.specs.declared.scan.Shape.the-variants.{List as list, Object as object}
 use Rattle.text.proofs.Laws.Tests.{inside, under, over}
@@ -47,7 +48,8 @@ module _ (b : ℕ) where
   value-opens n list e = rw e
   value-opens n object e = rw e
 
-  pub value-none : (n : ℕ) → (b ≡ 34 → ⊥) → (b ≡ 45 → ⊥) → (b < 48 ⊎ 57 < b) → (b ≡ 91 → ⊥) → (b ≡ 102 → ⊥) → (b ≡ 110 → ⊥) → (b ≡ 116 → ⊥) → (b ≡ 123 → ⊥) → move (value n) b ≡ bad
+  pub value-none : (n : ℕ) → (b ≡ 34 → ⊥) → (b ≡ 45 → ⊥) → (b < 48 ⊎ 57 < b) → (b ≡ 91 → ⊥) → (b ≡ 102 → ⊥)
+      → (b ≡ 110 → ⊥) → (b ≡ 116 → ⊥) → (b ≡ 123 → ⊥) → move (value n) b ≡ bad
   unfolding move begins
   value-none n h1 h2 h3 h4 h5 h6 h7 h8 =
       rw (

@@ -4,7 +4,10 @@ use mathlib.Core.List.{List}
 use Prim.Native.Nat.{ℕ, _+_}
 use native.Mathlib.Omega.{arith}
 use Rattle.text.specs.Base.{At, oneOf}
-use Rattle.text.specs.Json.{Json, Values, Members, no-more, also, no-members, list, object, Space, a-value, elements, rest, members, more, Reads, a-null, a-true, a-false, a-number, a-string, empty-list, some-list, element, close-list, comma-list, empty-object, some-object, close-object, comma-object}
+use Rattle.text.specs.Json.{Json, Values, Members, no-more, also, no-members, list, object, Space, a-value}
+use Rattle.text.specs.Json.{elements, rest, members, more, Reads, a-null, a-true, a-false, a-number, a-string}
+use Rattle.text.specs.Json.{empty-list, some-list, element, close-list, comma-list, empty-object, some-object}
+use Rattle.text.specs.Json.{close-object, comma-object}
 use Rattle.text.specs.Machine.{move}
 use Rattle.text.proofs.Laws.Parts.{spelt-first}
 use Rattle.text.proofs.Laws.Ends.{ends-rest}
@@ -45,7 +48,8 @@ objected o (empty-object p w c) = none refl refl w c
 objected o (some-object {ms = ms} p w r) = some ms refl w r
 
 module _ {s : List ℕ} where
-  pub empty-list-once : {i j : ℕ} → At s i 91 → Space s (i + 1) j → At s j 93 → Once s (a-value (list no-more)) i (j + 1)
+  pub empty-list-once : {i j : ℕ} → At s i 91 → Space s (i + 1) j → At s j 93
+      → Once s (a-value (list no-more)) i (j + 1)
   unfolding move oneOf
   empty-list-once {i} {j} o w c u f r d = by (listed o r)
     where
@@ -56,7 +60,8 @@ module _ {s : List ℕ} where
           let z = space-once w c refl x (v .at) (v .black) in
           absurd (v .inner (clash (v .at) (subst (λ (n : ℕ). At s n 93) z c)))
 
-  pub some-list-once : {i j e : ℕ} {ts : Values} → At s i 91 → Space s (i + 1) j → Reads s (elements ts) j e → Once s (elements ts) j e → Once s (a-value (list ts)) i e
+  pub some-list-once : {i j e : ℕ} {ts : Values} → At s i 91 → Space s (i + 1) j → Reads s (elements ts) j e
+      → Once s (elements ts) j e → Once s (a-value (list ts)) i e
   unfolding move oneOf
   some-list-once {i} {j} {e} {ts} o w q on u f r d = let v = elements-start q in by v (listed o r)
     where
@@ -70,7 +75,8 @@ module _ {s : List ℕ} where
           let m = on us f (moved (elements us) z p) in
           record { what = ap list (m .what) ∙ sym g; stop = m .stop }
 
-  pub empty-object-once : {i j : ℕ} → At s i 123 → Space s (i + 1) j → At s j 125 → Once s (a-value (object no-members)) i (j + 1)
+  pub empty-object-once : {i j : ℕ} → At s i 123 → Space s (i + 1) j → At s j 125
+      → Once s (a-value (object no-members)) i (j + 1)
   unfolding move oneOf
   empty-object-once {i} {j} o w c u f r d = by (objected o r)
     where
@@ -81,7 +87,8 @@ module _ {s : List ℕ} where
           let z = space-once w c refl x v refl in
           absurd (let y = clash v (subst (λ (n : ℕ). At s n 125) z c) in omega arith)
 
-  pub some-object-once : {i j e : ℕ} {ms : Members} → At s i 123 → Space s (i + 1) j → Reads s (members ms) j e → Once s (members ms) j e → Once s (a-value (object ms)) i e
+  pub some-object-once : {i j e : ℕ} {ms : Members} → At s i 123 → Space s (i + 1) j → Reads s (members ms) j e
+      → Once s (members ms) j e → Once s (a-value (object ms)) i e
   unfolding move oneOf
   some-object-once {i} {j} {e} {ms} o w q on u f r d = let v = members-start q in by v (objected o r)
     where
@@ -94,7 +101,8 @@ module _ {s : List ℕ} where
           let m = on us f (moved (members us) z p) in
           record { what = ap object (m .what) ∙ sym g; stop = m .stop }
 
-  pub element-once : {i j e : ℕ} {t : Json} {ts : Values} → Once s (a-value t) i j → Once s (rest ts) j e → Once s (elements (also t ts)) i e
+  pub element-once : {i j e : ℕ} {t : Json} {ts : Values} → Once s (a-value t) i j → Once s (rest ts) j e
+      → Once s (elements (also t ts)) i e
   element-once {i} {j} {e} {t} {ts} on go u f (element {j = k} {t = v} {ts = vs} p q) =
       let m = on v k p (ends-rest q) in
       let n = go vs f (moved (rest vs) (sym (m .stop)) q) in
@@ -102,11 +110,13 @@ module _ {s : List ℕ} where
 
   pub close-list-once : {i j : ℕ} → Space s i j → At s j 93 → Once s (rest no-more) i (j + 1)
   unfolding move oneOf
-  close-list-once w c u f (close-list x p) = let z = space-once w c refl x p refl in record { what = refl; stop = ap (λ (n : ℕ). n + 1) z }
+  close-list-once w c u f (close-list x p) =
+      let z = space-once w c refl x p refl in record { what = refl; stop = ap (λ (n : ℕ). n + 1) z }
   close-list-once w c u f (comma-list x p y r) =
       let z = space-once w c refl x p refl in absurd (let k = clash p (subst (λ (n : ℕ). At s n 93) z c) in omega arith)
 
-  pub comma-list-once : {i j k e : ℕ} {ts : Values} → Space s i j → At s j 44 → Space s (j + 1) k → Reads s (elements ts) k e → Once s (elements ts) k e → Once s (rest ts) i e
+  pub comma-list-once : {i j k e : ℕ} {ts : Values} → Space s i j → At s j 44 → Space s (j + 1) k
+      → Reads s (elements ts) k e → Once s (elements ts) k e → Once s (rest ts) i e
   unfolding move oneOf
   comma-list-once w c y q on u f (close-list x p) =
       let z = space-once w c refl x p refl in absurd (let k = clash p (subst (λ (n : ℕ). At s n 44) z c) in omega arith)
@@ -119,11 +129,14 @@ module _ {s : List ℕ} where
 
   pub close-object-once : {i j : ℕ} → Space s i j → At s j 125 → Once s (more no-members) i (j + 1)
   unfolding move oneOf
-  close-object-once w c u f (close-object x p) = let z = space-once w c refl x p refl in record { what = refl; stop = ap (λ (n : ℕ). n + 1) z }
+  close-object-once w c u f (close-object x p) =
+      let z = space-once w c refl x p refl in record { what = refl; stop = ap (λ (n : ℕ). n + 1) z }
   close-object-once w c u f (comma-object x p y r) =
-      let z = space-once w c refl x p refl in absurd (let k = clash p (subst (λ (n : ℕ). At s n 125) z c) in omega arith)
+      let z = space-once w c refl x p refl in
+      absurd (let k = clash p (subst (λ (n : ℕ). At s n 125) z c) in omega arith)
 
-  pub comma-object-once : {i j k e : ℕ} {ms : Members} → Space s i j → At s j 44 → Space s (j + 1) k → Reads s (members ms) k e → Once s (members ms) k e → Once s (more ms) i e
+  pub comma-object-once : {i j k e : ℕ} {ms : Members} → Space s i j → At s j 44 → Space s (j + 1) k
+      → Reads s (members ms) k e → Once s (members ms) k e → Once s (more ms) i e
   unfolding move oneOf
   comma-object-once w c y q on u f (close-object x p) =
       let z = space-once w c refl x p refl in absurd (let k = clash p (subst (λ (n : ℕ). At s n 44) z c) in omega arith)

@@ -8,7 +8,9 @@ use lib.Dec.{eqb}
 use lib.ListN.{getD}
 use borrow.Author.Tests.{ne-eqb}
 use Rattle.text.specs.Base.{pick, At, part}
-use Rattle.text.specs.Json.{Json, null, bool, number, string, depth, Number, unsigned, negative, zero, from-1-9, Spelt, a-value, Reads, a-null, a-true, a-false, a-number, a-string, empty-list, some-list, empty-object, some-object}
+use Rattle.text.specs.Json.{Json, null, bool, number, string, depth, Number, unsigned, negative, zero, from-1-9}
+use Rattle.text.specs.Json.{Spelt, a-value, Reads, a-null, a-true, a-false, a-number, a-string, empty-list}
+use Rattle.text.specs.Json.{some-list, empty-object, some-object}
 use Rattle.text.specs.Contents.{Ends}
 use Rattle.text.specs.Machine.{value}
 use Rattle.text.proofs.Laws.Places.{done-unique}
@@ -24,11 +26,17 @@ leafOf s i e =
     (pick (eqb (getD s i 0) 110) null
     (pick (eqb (getD s i 0) 116) (bool true) (number (part s i e)))))
 
-number-leaf : {s w : List ℕ} {i e : ℕ} (b : ℕ) → At s i b → b < 102 → (b ≡ 34 → ⊥) → Spelt s w i e → number w ≡ leafOf s i e
+number-leaf : {s w : List ℕ} {i e : ℕ} (b : ℕ) → At s i b → b < 102 → (b ≡ 34 → ⊥) → Spelt s w i e
+    → number w ≡ leafOf s i e
 unfolding leafOf
 number-leaf {s} {w} {i} {e} b p h n q =
     let z = p .is in
-    rw (ne-eqb (getD s i 0) 34 (omega arith), ne-eqb (getD s i 0) 102 (omega arith), ne-eqb (getD s i 0) 110 (omega arith), ne-eqb (getD s i 0) 116 (omega arith))
+    rw (
+      ne-eqb (getD s i 0) 34 (omega arith),
+      ne-eqb (getD s i 0) 102 (omega arith),
+      ne-eqb (getD s i 0) 110 (omega arith),
+      ne-eqb (getD s i 0) 116 (omega arith),
+    )
     (ap number (sym (q .is)))
 
 number-is : {s w : List ℕ} {i e : ℕ} → Number w → Spelt s w i e → number w ≡ leafOf s i e
@@ -66,7 +74,8 @@ number-opens (unsigned (from-1-9 {d} h t) f x) p =
     let u = h .high in opens-not d (spelt-first p) (omega arith) (omega arith)
 number-opens (negative i f x) p = opens-not 45 (spelt-first p) (omega arith) (omega arith)
 
-leaf-once : {s : List ℕ} {i e : ℕ} {t : Json} → Opens s i → depth t ≡ 0 → Reads s (a-value t) i e → Ends s e → (u : Json) (f : ℕ) → Reads s (a-value u) i f → Ends s f → depth u ≡ 0 → Same Json t u e f
+leaf-once : {s : List ℕ} {i e : ℕ} {t : Json} → Opens s i → depth t ≡ 0 → Reads s (a-value t) i e → Ends s e
+    → (u : Json) (f : ℕ) → Reads s (a-value u) i f → Ends s f → depth u ≡ 0 → Same Json t u e f
 leaf-once {s} {i} {e} o z r c u f q d y =
     let k = done-unique (value 0 ∷ []) (reads-done 0 r (omega arith) c) (reads-done 0 q (omega arith) d) in
     record { what = leaf-is o r ∙ ap (leafOf s i) k ∙ sym (leaf-is o q); stop = k }
@@ -84,5 +93,6 @@ leaf-flat o (some-list p w r) = absurd (o .no-list (p .is))
 leaf-flat o (empty-object p w c) = absurd (o .no-object (p .is))
 leaf-flat o (some-object p w r) = absurd (o .no-object (p .is))
 
-pub flat-once : {s : List ℕ} {i e : ℕ} {t : Json} → Opens s i → Reads s (a-value t) i e → Ends s e → Once s (a-value t) i e
+pub flat-once : {s : List ℕ} {i e : ℕ} {t : Json} → Opens s i → Reads s (a-value t) i e → Ends s e
+    → Once s (a-value t) i e
 flat-once o r c u f q d = leaf-once o (leaf-flat o r) r c u f q d (leaf-flat o q)

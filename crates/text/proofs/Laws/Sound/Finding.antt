@@ -2,19 +2,21 @@
 use mathlib.Core.List.{List, _∷_, _++_}
 use Prim.Native.Nat.{ℕ, _≤_, _<_}
 use lib.ListN.{length}
-use Rattle.text.specs.Json.{Json, Values, Members, depth, depths, depthm, Piece, a-value, elements, rest, members, more, Reads}
+use Rattle.text.specs.Json.{Json, Values, Members, depth, depths, depthm, Piece, a-value, elements, rest, members}
+use Rattle.text.specs.Json.{more, Reads}
 use Rattle.text.specs.Machine.{Item, ws, value, next, before, inner}
 use Rattle.text.specs.declared.scan.Shape.the-variants.{List as a-list, Object as an-object}
 use Rattle.text.proofs.Laws.Places.{Alive}
 
 -- a piece stands at a place, within n levels, and behind it the items ys are owed
-pub record Found (A : Type 0) (piece : A → Piece) (size : A → ℕ) (s : List ℕ) (n : ℕ) (ys : List Item) (i : ℕ) : Type 0 where
-  pub what : A
-  pub stop : ℕ
-  pub reads : Reads s (piece what) i stop
-  pub shallow : size what ≤ n
-  pub later : i < stop
-  pub next : Alive s ys stop
+pub record Found (A : Type 0) (piece : A → Piece) (size : A → ℕ) (s : List ℕ) (n : ℕ) (ys : List Item) (i : ℕ) : Type 0
+  where
+    pub what : A
+    pub stop : ℕ
+    pub reads : Reads s (piece what) i stop
+    pub shallow : size what ≤ n
+    pub later : i < stop
+    pub next : Alive s ys stop
 
 abbrev pub Value : List ℕ → ℕ → List Item → ℕ → Type 0
 Value s n ys i = Found Json a-value depth s n ys i
@@ -24,7 +26,8 @@ pub record All (s : List ℕ) (i : ℕ) : Type 0 where
   pub a-value-at : (n : ℕ) (ys : List Item) → Alive s (value n ∷ ys) i → Value s n ys i
   pub elements-at : (n : ℕ) (ys : List Item) → Alive s (inner a-list n ++ ys) i → Found Values elements depths s n ys i
   pub rest-at : (n : ℕ) (ys : List Item) → Alive s (ws ∷ next a-list n ∷ ys) i → Found Values rest depths s n ys i
-  pub members-at : (n : ℕ) (ys : List Item) → Alive s ((before an-object ++ inner an-object n) ++ ys) i → Found Members members depthm s n ys i
+  pub members-at : (n : ℕ) (ys : List Item) → Alive s ((before an-object ++ inner an-object n) ++ ys) i
+      → Found Members members depthm s n ys i
   pub more-at : (n : ℕ) (ys : List Item) → Alive s (ws ∷ next an-object n ∷ ys) i → Found Members more depthm s n ys i
 
 abbrev pub Later : List ℕ → ℕ → Type 0

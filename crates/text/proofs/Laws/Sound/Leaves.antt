@@ -4,7 +4,8 @@ use mathlib.Core.List.{List, [], _∷_, _++_, map}
 use Prim.Native.Nat.{ℕ, _+_, _≤_, _<_}
 use native.Mathlib.Omega.{arith}
 use lib.ListN.{length, getD}
-use Rattle.text.specs.Json.{Json, number, string, depth, Number, unsigned, negative, Spelt, a-value, Reads, a-number, a-string}
+use Rattle.text.specs.Json.{Json, number, string, depth, Number, unsigned, negative, Spelt, a-value, Reads}
+use Rattle.text.specs.Json.{a-number, a-string}
 use Rattle.text.specs.Machine.{Item, go, byte, text, integer, value, next, move}
 use Rattle.text.proofs.Laws.Reading.{alike}
 use Rattle.text.proofs.Laws.Places.{Alive, alive-seq}
@@ -21,14 +22,30 @@ took-word [] ys v = record { word = []; stop = _; spelt = spelt-none (v .high); 
 took-word (b ∷ w) ys v =
     let p = alive-byte b (map byte w ++ ys) v in
     let r = took-word w ys (p .next) in
-    record { word = b ∷ r .word; stop = r .stop; spelt = spelt-cons (p .at) (r .spelt); good = ap (λ (l : List ℕ). b ∷ l) (r .good); next = r .next }
+    record {
+      word = b ∷ r .word;
+      stop = r .stop;
+      spelt = spelt-cons (p .at) (r .spelt);
+      good = ap (λ (l : List ℕ). b ∷ l) (r .good);
+      next = r .next;
+    }
 
 module _ {s : List ℕ} {i : ℕ} (n : ℕ) (ys : List Item) (v : Alive s (value n ∷ ys) i) (h : i < length s) where
-  pub word-value : (b : ℕ) (w : List ℕ) (t : Json) → getD s i 0 ≡ b → move (value n) (getD s i 0) ≡ go (map byte w) → ((e : ℕ) → Spelt s (b ∷ w) i e → Reads s (a-value t) i e) → depth t ≡ 0 → Value s n ys i
+  pub word-value : (b : ℕ) (w : List ℕ) (t : Json) → getD s i 0 ≡ b → move (value n) (getD s i 0) ≡ go (map byte w)
+      → ((e : ℕ) → Spelt s (b ∷ w) i e → Reads s (a-value t) i e) → depth t ≡ 0 → Value s n ys i
   word-value b w t e m make z =
       let r = took-word w ys (alive-takes (value n) ys v (map byte w) h m) in
-      let p = spelt-cons (record { inside = h; is = e }) (subst (λ (x : List ℕ). Spelt s x (i + 1) (r .stop)) (r .good) (r .spelt)) in
-      record { what = t; stop = r .stop; reads = make (r .stop) p; shallow = omega arith; later = omega (arith, r .spelt .order); next = r .next }
+      let p =
+      spelt-cons (record { inside = h; is = e })
+      (subst (λ (x : List ℕ). Spelt s x (i + 1) (r .stop)) (r .good) (r .spelt)) in
+      record {
+        what = t;
+        stop = r .stop;
+        reads = make (r .stop) p;
+        shallow = omega arith;
+        later = omega (arith, r .spelt .order);
+        next = r .next;
+      }
 
   pub string-value : getD s i 0 ≡ 34 → Value s n ys i
   unfolding depth
@@ -37,7 +54,16 @@ module _ {s : List ℕ} {i : ℕ} (n : ℕ) (ys : List Item) (v : Alive s (value
       record {
         what = string (r .word);
         stop = r .close + 1;
-        reads = a-string (record { opens = record { inside = h; is = e }; close = r .close; units = r .units; spelt = r .spelt; body = r .body; closes = r .closes; past = refl });
+        reads = a-string
+            (record {
+              opens = record { inside = h; is = e };
+              close = r .close;
+              units = r .units;
+              spelt = r .spelt;
+              body = r .body;
+              closes = r .closes;
+              past = refl;
+            });
         shallow = omega arith;
         later = omega (arith, r .spelt .order);
         next = r .next;
@@ -51,7 +77,8 @@ module _ {s : List ℕ} {i : ℕ} (n : ℕ) (ys : List Item) (v : Alive s (value
       record {
         what = number (45 ∷ r .word);
         stop = r .stop;
-        reads = a-number (spelt-cons (record { inside = h; is = e }) (r .spelt)) (subst (λ (x : List ℕ). Number (45 ∷ x)) (sym (g .is)) (negative (g .int-is) (g .frac-is) (g .exp-is)));
+        reads = a-number (spelt-cons (record { inside = h; is = e }) (r .spelt))
+            (subst (λ (x : List ℕ). Number (45 ∷ x)) (sym (g .is)) (negative (g .int-is) (g .frac-is) (g .exp-is)));
         shallow = omega arith;
         later = omega (arith, r .spelt .order);
         next = r .next;
@@ -60,7 +87,11 @@ module _ {s : List ℕ} {i : ℕ} (n : ℕ) (ys : List Item) (v : Alive s (value
   pub unsigned-value : 48 ≤ getD s i 0 → getD s i 0 < 58 → Value s n ys i
   unfolding depth
   unsigned-value l u =
-      let r = took-plain ys (alive-seq v (alike (value n ∷ ys) (integer ∷ ys) h (λ k. same-move (getD s i 0) (value n) integer (value-digit (getD s i 0) n l u) (ys ++ k)))) in
+      let r =
+      took-plain ys
+      (alive-seq v
+      (alike (value n ∷ ys) (integer ∷ ys) h
+      (λ k. same-move (getD s i 0) (value n) integer (value-digit (getD s i 0) n l u) (ys ++ k)))) in
       let g = r .good in
       record {
         what = number (r .word);

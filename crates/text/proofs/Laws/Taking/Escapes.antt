@@ -7,7 +7,8 @@ use native.Mathlib.Omega.{arith}
 use native.Mathlib.Decide.{decLt, ℕ-discrete}
 use lib.ListN.{length, getD, replicate}
 use Rattle.text.specs.Base.{At}
-use Rattle.text.specs.Strings.{Unit, plain, coded, Short, quote, reverse-solidus, solidus, backspace, form-feed, line-feed, carriage-return, tab, Hex, digit, upper, lower, Char, escaped, hexed}
+use Rattle.text.specs.Strings.{Unit, plain, coded, Short, quote, reverse-solidus, solidus, backspace, form-feed}
+use Rattle.text.specs.Strings.{line-feed, carriage-return, tab, Hex, digit, upper, lower, Char, escaped, hexed}
 use Rattle.text.specs.Machine.{Item, bad, hex, escape, high, move, optional}
 use Rattle.text.proofs.Laws.Places.{Alive, alive-inside}
 use Rattle.text.proofs.Laws.Parts.{spelt-one, spelt-cons}
@@ -31,9 +32,11 @@ hex-or b = by (decLt b 48) (decLt b 58) (decLt b 65) (decLt b 71) (decLt b 97) (
     by (yes p) q r t u w = no-hex (hex-below b p)
     by (no p) (yes q) r t u w = is-hex (b - 48) (digit {b = b} (record { low = omega arith; high = omega arith }))
     by (no p) (no q) (yes r) t u w = no-hex (hex-between b (omega arith) r)
-    by (no p) (no q) (no r) (yes t) u w = is-hex (b - 65 + 10) (upper {b = b} (record { low = omega arith; high = omega arith }))
+    by (no p) (no q) (no r) (yes t) u w =
+        is-hex (b - 65 + 10) (upper {b = b} (record { low = omega arith; high = omega arith }))
     by (no p) (no q) (no r) (no t) (yes u) w = no-hex (hex-gap b (omega arith) u)
-    by (no p) (no q) (no r) (no t) (no u) (yes w) = is-hex (b - 97 + 10) (lower {b = b} (record { low = omega arith; high = omega arith }))
+    by (no p) (no q) (no r) (no t) (no u) (yes w) =
+        is-hex (b - 97 + 10) (lower {b = b} (record { low = omega arith; high = omega arith }))
     by (no p) (no q) (no r) (no t) (no u) (no w) = no-hex (hex-above b (omega arith))
 
 record Hexed (s : List ℕ) (ys : List Item) (i : ℕ) : Type 0 where
@@ -48,7 +51,8 @@ unfolding optional
 alive-hex {s} {i} ys v = by (alive-inside hex ys refl v) (hex-or (getD s i 0))
   where
     by : i < length s → HexOr (getD s i 0) → Hexed s ys i
-    by h (is-hex x g) = record { byte = getD s i 0; value = x; at = here s i h; good = g; next = alive-takes hex ys v [] h (hex-is g) }
+    by h (is-hex x g) =
+        record { byte = getD s i 0; value = x; at = here s i h; good = g; next = alive-takes hex ys v [] h (hex-is g) }
     by h (no-hex e) = absurd (alive-refuses hex ys v h e)
 
 data ShortOr (b : ℕ) : Type 0 where
@@ -64,7 +68,8 @@ short-or b =
     short : (x c : ℕ) → b ≡ x → Short x c → ShortOr b
     short x c e g = is-short c (subst (λ (y : ℕ). Short y c) (sym e) g)
 
-    by : Dec (b ≡ 34) → Dec (b ≡ 47) → Dec (b ≡ 92) → Dec (b ≡ 98) → Dec (b ≡ 102) → Dec (b ≡ 110) → Dec (b ≡ 114) → Dec (b ≡ 116) → Dec (b ≡ 117) → ShortOr b
+    by : Dec (b ≡ 34) → Dec (b ≡ 47) → Dec (b ≡ 92) → Dec (b ≡ 98) → Dec (b ≡ 102) → Dec (b ≡ 110) → Dec (b ≡ 114)
+        → Dec (b ≡ 116) → Dec (b ≡ 117) → ShortOr b
     by (yes e) d2 d3 d4 d5 d6 d7 d8 d9 = short 34 34 e quote
     by (no n1) (yes e) d3 d4 d5 d6 d7 d8 d9 = short 47 47 e solidus
     by (no n1) (no n2) (yes e) d4 d5 d6 d7 d8 d9 = short 92 92 e reverse-solidus
@@ -92,14 +97,21 @@ took-escape {s} {i} ys o v = by (alive-inside escape ys refl v) (short-or (getD 
           next = alive-takes escape ys v [] h (short-is g);
         }
     by h (is-long e) =
-        let p = alive-hex (hex ∷ hex ∷ hex ∷ ys) (alive-takes escape ys v (replicate 4 hex) h (escape-hex (getD s (i + 1) 0) e)) in
+        let p =
+        alive-hex (hex ∷ hex ∷ hex ∷ ys)
+        (alive-takes escape ys v (replicate 4 hex) h (escape-hex (getD s (i + 1) 0) e)) in
         let q = alive-hex (hex ∷ hex ∷ ys) (p .next) in
         let r = alive-hex (hex ∷ ys) (q .next) in
         let t = alive-hex ys (r .next) in
         record {
           word = 92 ∷ 117 ∷ p .byte ∷ q .byte ∷ r .byte ∷ t .byte ∷ [];
           stop = i + 1 + 1 + 1 + 1 + 1 + 1;
-          spelt = spelt-cons o (spelt-cons (record { inside = h; is = e }) (spelt-cons (p .at) (spelt-cons (q .at) (spelt-cons (r .at) (spelt-one (t .at))))));
-          good = record { unit = coded (p .value * 4096 + q .value * 256 + r .value * 16 + t .value); is = hexed (p .good) (q .good) (r .good) (t .good) };
+          spelt = spelt-cons o
+              (spelt-cons (record { inside = h; is = e })
+              (spelt-cons (p .at) (spelt-cons (q .at) (spelt-cons (r .at) (spelt-one (t .at))))));
+          good = record {
+            unit = coded (p .value * 4096 + q .value * 256 + r .value * 16 + t .value);
+            is = hexed (p .good) (q .good) (r .good) (t .good);
+          };
           next = t .next;
         }

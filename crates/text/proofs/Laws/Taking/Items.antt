@@ -15,11 +15,14 @@ use Rattle.text.proofs.Laws.Parts.{spelt-none}
 use Rattle.text.proofs.Laws.Moves.Bytes.{byte-is, byte-not, range-is, range-over, range-under}
 
 -- from the end of a text back to any place
-go-back : (f : ℕ) (s : List ℕ) (P : ℕ → Type 0) → ((i : ℕ) → i ≤ length s → ((j : ℕ) → i < j → j ≤ length s → P j) → P i) → (i : ℕ) → i ≤ length s → length s - i ≤ f → P i
+go-back : (f : ℕ) (s : List ℕ) (P : ℕ → Type 0)
+    → ((i : ℕ) → i ≤ length s → ((j : ℕ) → i < j → j ≤ length s → P j) → P i) → (i : ℕ) → i ≤ length s
+    → length s - i ≤ f → P i
 go-back zero s P step i h g = step i h (λ j l u. absurd (omega arith))
 go-back (suc f) s P step i h g = step i h (λ j l u. go-back f s P step j u (omega arith))
 
-pub from-end : (s : List ℕ) (P : ℕ → Type 0) → ((i : ℕ) → i ≤ length s → ((j : ℕ) → i < j → j ≤ length s → P j) → P i) → (i : ℕ) → i ≤ length s → P i
+pub from-end : (s : List ℕ) (P : ℕ → Type 0) → ((i : ℕ) → i ≤ length s → ((j : ℕ) → i < j → j ≤ length s → P j) → P i)
+    → (i : ℕ) → i ≤ length s → P i
 from-end s P step i h = go-back (length s) s P step i h (omega arith)
 
 -- bytes of a kind stand at a place, and behind them the items ys are owed
@@ -60,7 +63,8 @@ unfolding optional
 alive-byte {s} {i} b ys v = by (alive-inside (byte b) ys refl v) (ℕ-discrete (getD s i 0) b)
   where
     by : i < length s → Dec (getD s i 0 ≡ b) → Due s b ys i
-    by h (yes e) = record { at = record { inside = h; is = e }; next = alive-takes (byte b) ys v [] h (byte-is (getD s i 0) b e) }
+    by h (yes e) =
+        record { at = record { inside = h; is = e }; next = alive-takes (byte b) ys v [] h (byte-is (getD s i 0) b e) }
     by h (no e) = absurd (alive-refuses (byte b) ys v h (byte-not (getD s i 0) b e))
 
 pub record Ranged (lo hi : ℕ) (s : List ℕ) (ys : List Item) (i : ℕ) : Type 0 where
@@ -71,7 +75,8 @@ pub record Ranged (lo hi : ℕ) (s : List ℕ) (ys : List Item) (i : ℕ) : Type
 
 pub alive-range : {s : List ℕ} {i : ℕ} (lo hi : ℕ) (ys : List Item) → Alive s (range lo hi ∷ ys) i → Ranged lo hi s ys i
 unfolding optional
-alive-range {s} {i} lo hi ys v = by (alive-inside (range lo hi) ys refl v) (decLt (getD s i 0) lo) (decLt hi (getD s i 0))
+alive-range {s} {i} lo hi ys v =
+    by (alive-inside (range lo hi) ys refl v) (decLt (getD s i 0) lo) (decLt hi (getD s i 0))
   where
     by : i < length s → Dec (getD s i 0 < lo) → Dec (hi < getD s i 0) → Ranged lo hi s ys i
     by h (yes p) d = absurd (alive-refuses (range lo hi) ys v h (range-under (getD s i 0) lo hi p))

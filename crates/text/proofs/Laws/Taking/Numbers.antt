@@ -7,17 +7,23 @@ use native.Mathlib.Omega.{arith}
 use native.Mathlib.Decide.{decLt, ℕ-discrete}
 use lib.ListN.{length, getD, length-append}
 use types.Run.{OneOf}
-use Rattle.text.specs.Json.{Digits, no-digit, digit, Digits₁, digits, Int, zero, from-1-9, Frac, no-frac, frac, Sign, no-sign, plus, minus, Exp, no-exp, upper, lower, Spelt}
+use Rattle.text.specs.Json.{Digits, no-digit, digit, Digits₁, digits, Int, zero, from-1-9, Frac, no-frac, frac}
+use Rattle.text.specs.Json.{Sign, no-sign, plus, minus, Exp, no-exp, upper, lower, Spelt}
 use Rattle.text.specs.Machine.{Item, integer, fraction, exponent, sign, optional}
 use Rattle.text.specs.Machine as M
 use Rattle.text.proofs.Laws.Reading.{alike}
 use Rattle.text.proofs.Laws.Places.{Alive, alive-seq, alive-inside}
 use Rattle.text.proofs.Laws.Parts.{spelt-one, spelt-cons, spelt-append, spelt-length}
-use Rattle.text.proofs.Laws.Moves.Numbers.{digit-is, digit-over, digit-under, digits-is, digits-over, digits-under, exponent-is, exponent-not, fraction-is, fraction-not, integer-more, integer-over, integer-under, integer-zero, sign-is, sign-not}
+use Rattle.text.proofs.Laws.Moves.Numbers.{digit-is, digit-over, digit-under, digits-is, digits-over}
+use Rattle.text.proofs.Laws.Moves.Numbers.{digits-under, exponent-is, exponent-not, fraction-is, fraction-not}
+use Rattle.text.proofs.Laws.Moves.Numbers.{integer-more, integer-over, integer-under, integer-zero, sign-is}
+use Rattle.text.proofs.Laws.Moves.Numbers.{sign-not}
 use Rattle.text.proofs.Laws.Moves.Owing.{same-move}
-use Rattle.text.proofs.Laws.Taking.Items.{from-end, Took, alive-takes, alive-passes, alive-skips, alive-refuses, took-none, here}
+use Rattle.text.proofs.Laws.Taking.Items.{from-end, Took, alive-takes, alive-passes, alive-skips, alive-refuses}
+use Rattle.text.proofs.Laws.Taking.Items.{took-none, here}
 
-digits-step : {s : List ℕ} {i : ℕ} (ys : List Item) → Alive s (M.digits ∷ ys) i → ((j : ℕ) → i < j → j ≤ length s → Alive s (M.digits ∷ ys) j → Took Digits s ys j) → Took Digits s ys i
+digits-step : {s : List ℕ} {i : ℕ} (ys : List Item) → Alive s (M.digits ∷ ys) i
+    → ((j : ℕ) → i < j → j ≤ length s → Alive s (M.digits ∷ ys) j → Took Digits s ys j) → Took Digits s ys i
 unfolding optional
 digits-step {s} {i} ys v on = by (decLt i (length s)) (decLt (getD s i 0) 48) (decLt (getD s i 0) 58)
   where
@@ -29,7 +35,9 @@ digits-step {s} {i} ys v on = by (decLt i (length s)) (decLt (getD s i 0) 48) (d
     by (yes h) (yes d) e = none (alive-passes M.digits ys v h (digits-under (getD s i 0) d))
     by (yes h) (no d) (no e) = none (alive-passes M.digits ys v h (digits-over (getD s i 0) (omega arith)))
     by (yes h) (no d) (yes e) =
-        let r = on (i + 1) (omega arith) (omega arith) (alive-takes M.digits ys v (M.digits ∷ []) h (digits-is (getD s i 0) (omega arith) e)) in
+        let r =
+        on (i + 1) (omega arith) (omega arith)
+        (alive-takes M.digits ys v (M.digits ∷ []) h (digits-is (getD s i 0) (omega arith) e)) in
         record {
           word = getD s i 0 ∷ r .word;
           stop = r .stop;
@@ -44,7 +52,8 @@ took-digits {s} {i} ys v =
 
 took-digits₁ : {s : List ℕ} {i : ℕ} (ys : List Item) → Alive s (M.digit ∷ M.digits ∷ ys) i → Took Digits₁ s ys i
 unfolding optional
-took-digits₁ {s} {i} ys v = by (alive-inside M.digit (M.digits ∷ ys) refl v) (decLt (getD s i 0) 48) (decLt (getD s i 0) 58)
+took-digits₁ {s} {i} ys v =
+    by (alive-inside M.digit (M.digits ∷ ys) refl v) (decLt (getD s i 0) 48) (decLt (getD s i 0) 58)
   where
     by : i < length s → Dec (getD s i 0 < 48) → Dec (getD s i 0 < 58) → Took Digits₁ s ys i
     by h (yes d) e = absurd (alive-refuses M.digit (M.digits ∷ ys) v h (digit-under (getD s i 0) d))
@@ -63,7 +72,8 @@ took-sign : {s : List ℕ} {i : ℕ} (ys : List Item) → Alive s (sign ∷ ys) 
 unfolding optional
 took-sign {s} {i} ys v = by (decLt i (length s)) (ℕ-discrete (getD s i 0) 43) (ℕ-discrete (getD s i 0) 45)
   where
-    some : (b : ℕ) → i < length s → getD s i 0 ≡ b → Sign (b ∷ []) → OneOf (43 ∷ 45 ∷ []) (getD s i 0) → Took Sign s ys i
+    some : (b : ℕ) → i < length s → getD s i 0 ≡ b → Sign (b ∷ []) → OneOf (43 ∷ 45 ∷ []) (getD s i 0)
+        → Took Sign s ys i
     some b h e g o =
         record {
           word = b ∷ [];
@@ -77,15 +87,19 @@ took-sign {s} {i} ys v = by (decLt i (length s)) (ℕ-discrete (getD s i 0) 43) 
     by (no h) d e = took-none sign ys v no-sign (alive-skips sign ys v h refl)
     by (yes h) (yes d) e = some 43 h d plus (inl d)
     by (yes h) (no d) (yes e) = some 45 h e minus (inr e)
-    by (yes h) (no d) (no e) = took-none sign ys v no-sign (alive-passes sign ys v h (sign-not (getD s i 0) (⊎-elim d e)))
+    by (yes h) (no d) (no e) =
+        took-none sign ys v no-sign (alive-passes sign ys v h (sign-not (getD s i 0) (⊎-elim d e)))
 
 took-exp : {s : List ℕ} {i : ℕ} (ys : List Item) → Alive s (exponent ∷ ys) i → Took Exp s ys i
 unfolding optional
 took-exp {s} {i} ys v = by (decLt i (length s)) (ℕ-discrete (getD s i 0) 69) (ℕ-discrete (getD s i 0) 101)
   where
-    some : (b : ℕ) → i < length s → getD s i 0 ≡ b → OneOf (69 ∷ 101 ∷ []) (getD s i 0) → ((w ds : List ℕ) → Sign w → Digits₁ ds → Exp (b ∷ (w ++ ds))) → Took Exp s ys i
+    some : (b : ℕ) → i < length s → getD s i 0 ≡ b → OneOf (69 ∷ 101 ∷ []) (getD s i 0)
+        → ((w ds : List ℕ) → Sign w → Digits₁ ds → Exp (b ∷ (w ++ ds))) → Took Exp s ys i
     some b h e o make =
-        let p = took-sign (M.digit ∷ M.digits ∷ ys) (alive-takes exponent ys v (sign ∷ M.digit ∷ M.digits ∷ []) h (exponent-is (getD s i 0) o)) in
+        let p =
+        took-sign (M.digit ∷ M.digits ∷ ys)
+        (alive-takes exponent ys v (sign ∷ M.digit ∷ M.digits ∷ []) h (exponent-is (getD s i 0) o)) in
         let q = took-digits₁ ys (p .next) in
         record {
           word = b ∷ (p .word ++ q .word);
@@ -99,7 +113,8 @@ took-exp {s} {i} ys v = by (decLt i (length s)) (ℕ-discrete (getD s i 0) 69) (
     by (no h) d e = took-none exponent ys v no-exp (alive-skips exponent ys v h refl)
     by (yes h) (yes d) e = some 69 h d (inl d) (λ w ds p q. upper p q)
     by (yes h) (no d) (yes e) = some 101 h e (inr e) (λ w ds p q. lower p q)
-    by (yes h) (no d) (no e) = took-none exponent ys v no-exp (alive-passes exponent ys v h (exponent-not (getD s i 0) (⊎-elim d e)))
+    by (yes h) (no d) (no e) =
+        took-none exponent ys v no-exp (alive-passes exponent ys v h (exponent-not (getD s i 0) (⊎-elim d e)))
 
 -- a fraction or none, and then an exponent or none
 record Ending (w : List ℕ) : Type 0 where
@@ -114,12 +129,26 @@ unfolding optional
 took-ending {s} {i} ys v = by (decLt i (length s)) (ℕ-discrete (getD s i 0) 46)
   where
     by : Dec (i < length s) → Dec (getD s i 0 ≡ 46) → Took Ending s ys i
-    by (no h) d = took-none fraction ys v (record { f = []; x = []; is = refl; frac-is = no-frac; exp-is = no-exp }) (alive-skips fraction ys v h refl)
+    by (no h) d =
+        took-none fraction ys v (record { f = []; x = []; is = refl; frac-is = no-frac; exp-is = no-exp })
+        (alive-skips fraction ys v h refl)
     by (yes h) (no d) =
-        let r = took-exp ys (alive-seq v (alike (fraction ∷ ys) (exponent ∷ ys) h (λ k. same-move (getD s i 0) fraction exponent (fraction-not (getD s i 0) d) (ys ++ k)))) in
-        record { word = r .word; stop = r .stop; spelt = r .spelt; good = record { f = []; x = r .word; is = refl; frac-is = no-frac; exp-is = r .good }; next = r .next }
+        let r =
+        took-exp ys
+        (alive-seq v
+        (alike (fraction ∷ ys) (exponent ∷ ys) h
+        (λ k. same-move (getD s i 0) fraction exponent (fraction-not (getD s i 0) d) (ys ++ k)))) in
+        record {
+          word = r .word;
+          stop = r .stop;
+          spelt = r .spelt;
+          good = record { f = []; x = r .word; is = refl; frac-is = no-frac; exp-is = r .good };
+          next = r .next;
+        }
     by (yes h) (yes d) =
-        let p = took-digits₁ (exponent ∷ ys) (alive-takes fraction ys v (M.digit ∷ M.digits ∷ exponent ∷ []) h (fraction-is (getD s i 0) d)) in
+        let p =
+        took-digits₁ (exponent ∷ ys)
+        (alive-takes fraction ys v (M.digit ∷ M.digits ∷ exponent ∷ []) h (fraction-is (getD s i 0) d)) in
         let q = took-exp ys (p .next) in
         record {
           word = 46 ∷ (p .word ++ q .word);
@@ -140,7 +169,16 @@ pub record Plain (w : List ℕ) : Type 0 where
   pub exp-is : Exp x
 
 plain-of : (i w : List ℕ) → Int i → Ending w → Plain (i ++ w)
-plain-of i w n e = record { i = i; f = e .f; x = e .x; is = ap (λ (l : List ℕ). i ++ l) (e .is); int-is = n; frac-is = e .frac-is; exp-is = e .exp-is }
+plain-of i w n e =
+    record {
+      i = i;
+      f = e .f;
+      x = e .x;
+      is = ap (λ (l : List ℕ). i ++ l) (e .is);
+      int-is = n;
+      frac-is = e .frac-is;
+      exp-is = e .exp-is;
+    }
 
 pub took-plain : {s : List ℕ} {i : ℕ} (ys : List Item) → Alive s (integer ∷ ys) i → Took Plain s ys i
 unfolding optional
@@ -160,13 +198,16 @@ took-plain {s} {i} ys v =
     by h (no d) (yes e) f = absurd (alive-refuses integer ys v h (integer-under (getD s i 0) e))
     by h (no d) (no e) (no f) = absurd (alive-refuses integer ys v h (integer-over (getD s i 0) (omega arith)))
     by h (no d) (no e) (yes f) =
-        let p = took-digits (fraction ∷ ys) (alive-takes integer ys v (M.digits ∷ fraction ∷ []) h (integer-more (getD s i 0) d (omega arith) f)) in
+        let p =
+        took-digits (fraction ∷ ys)
+        (alive-takes integer ys v (M.digits ∷ fraction ∷ []) h (integer-more (getD s i 0) d (omega arith) f)) in
         let q = took-ending ys (p .next) in
         record {
           word = (getD s i 0 ∷ p .word) ++ q .word;
           stop = q .stop;
           spelt = spelt-append (spelt-cons (here s i h) (p .spelt)) (q .spelt);
-          good = plain-of (getD s i 0 ∷ p .word) (q .word) (from-1-9 {d = getD s i 0} (record { low = omega arith; high = omega arith }) (p .good)) (q .good);
+          good = plain-of (getD s i 0 ∷ p .word) (q .word)
+              (from-1-9 {d = getD s i 0} (record { low = omega arith; high = omega arith }) (p .good)) (q .good);
           next = q .next;
         }
 

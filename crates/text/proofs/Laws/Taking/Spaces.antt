@@ -37,7 +37,8 @@ white-or b = by (ℕ-discrete b 9) (ℕ-discrete b 10) (ℕ-discrete b 13) (ℕ-
     by (no c) (no d) (no f) (no g) (yes l) = is-black (ws-under b l (none f g))
     by (no c) (no d) (no f) (no g) (no l) = is-black (ws-over b (omega arith) (none f g))
 
-space-step : {s : List ℕ} {i : ℕ} (ys : List Item) → Alive s (ws ∷ ys) i → ((j : ℕ) → i < j → j ≤ length s → Alive s (ws ∷ ys) j → Spaced s ys j) → Spaced s ys i
+space-step : {s : List ℕ} {i : ℕ} (ys : List Item) → Alive s (ws ∷ ys) i
+    → ((j : ℕ) → i < j → j ≤ length s → Alive s (ws ∷ ys) j → Spaced s ys j) → Spaced s ys i
 unfolding optional
 space-step {s} {i} ys v on = by (decLt i (length s)) (white-or (getD s i 0))
   where

@@ -19,14 +19,18 @@ use Rattle.text.proofs.Laws.Moves.Owing.{text-one}
 use Rattle.text.proofs.Laws.Taking.Escapes.{AChar, took-escape}
 use Rattle.text.proofs.Laws.Taking.Sequences.{took-two, took-long}
 
-pub took-char : {s : List ℕ} {i : ℕ} (ys : List Item) → (getD s i 0 ≡ 34 → ⊥) → Alive s (char ∷ ys) i → Took AChar s ys i
+pub took-char : {s : List ℕ} {i : ℕ} (ys : List Item) → (getD s i 0 ≡ 34 → ⊥) → Alive s (char ∷ ys) i
+    → Took AChar s ys i
 unfolding optional
 took-char {s} {i} ys n v =
-    by (alive-inside char ys refl v) (ℕ-discrete (getD s i 0) 92) (decLt (getD s i 0) 32) (decLt (getD s i 0) 128) (decLt (getD s i 0) 194) (decLt (getD s i 0) 224)
+    by (alive-inside char ys refl v) (ℕ-discrete (getD s i 0) 92) (decLt (getD s i 0) 32) (decLt (getD s i 0) 128)
+    (decLt (getD s i 0) 194) (decLt (getD s i 0) 224)
   where
-    by : i < length s → Dec (getD s i 0 ≡ 92) → Dec (getD s i 0 < 32) → Dec (getD s i 0 < 128) → Dec (getD s i 0 < 194) → Dec (getD s i 0 < 224) → Took AChar s ys i
+    by : i < length s → Dec (getD s i 0 ≡ 92) → Dec (getD s i 0 < 32) → Dec (getD s i 0 < 128) → Dec (getD s i 0 < 194)
+        → Dec (getD s i 0 < 224) → Took AChar s ys i
     by h (yes e) d2 d3 d4 d5 =
-        took-escape ys (record { inside = h; is = e }) (alive-takes char ys v (escape ∷ []) h (char-escape (getD s i 0) e))
+        took-escape ys (record { inside = h; is = e })
+        (alive-takes char ys v (escape ∷ []) h (char-escape (getD s i 0) e))
     by h (no n1) (yes p) d3 d4 d5 =
         absurd (alive-refuses char ys v h (char-low (getD s i 0) p ∙ high-tail (getD s i 0) (omega arith)))
     by h (no n1) (no p) (yes q) d4 d5 =
@@ -34,7 +38,10 @@ took-char {s} {i} ys n v =
           word = getD s i 0 ∷ [];
           stop = i + 1;
           spelt = spelt-one (here s i h);
-          good = record { unit = plain (getD s i 0); is = unescaped (ascii {a = getD s i 0} (omega arith)) (omega arith) n n1 };
+          good = record {
+            unit = plain (getD s i 0);
+            is = unescaped (ascii {a = getD s i 0} (omega arith)) (omega arith) n n1;
+          };
           next = alive-takes char ys v [] h (char-plain (getD s i 0) n1 (omega arith) q);
         }
     by h (no n1) (no p) (no q) (yes r) d5 =
@@ -74,7 +81,8 @@ pub record Closed (s : List ℕ) (ys : List Item) (i : ℕ) : Type 0 where
   pub closes : At s close 34
   pub next : Alive s ys (close + 1)
 
-text-step : {s : List ℕ} {i : ℕ} (ys : List Item) → Alive s (text ∷ ys) i → ((j : ℕ) → i < j → j ≤ length s → Alive s (text ∷ ys) j → Closed s ys j) → Closed s ys i
+text-step : {s : List ℕ} {i : ℕ} (ys : List Item) → Alive s (text ∷ ys) i
+    → ((j : ℕ) → i < j → j ≤ length s → Alive s (text ∷ ys) j → Closed s ys j) → Closed s ys i
 unfolding optional
 text-step {s} {i} ys v on = by (alive-inside text ys refl v) (ℕ-discrete (getD s i 0) 34)
   where
@@ -90,7 +98,9 @@ text-step {s} {i} ys v on = by (alive-inside text ys refl v) (ℕ-discrete (getD
           next = alive-takes text ys v [] h (text-quote (getD s i 0) e);
         }
     by h (no n) =
-        let c = took-char (text ∷ ys) n (alive-seq v (alike (text ∷ ys) (char ∷ text ∷ ys) h (λ k. text-one (getD s i 0) n (ys ++ k)))) in
+        let c =
+        took-char (text ∷ ys) n
+        (alive-seq v (alike (text ∷ ys) (char ∷ text ∷ ys) h (λ k. text-one (getD s i 0) n (ys ++ k)))) in
         let r = on (c .stop) (char-later (c .good) (c .spelt)) (c .spelt .inside) (c .next) in
         record {
           word = c .word ++ r .word;

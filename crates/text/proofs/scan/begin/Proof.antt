@@ -9,7 +9,8 @@ use borrow.Author.Needs.{needs}
 use Rattle.text.proofs.scan.begin.Statement.{statement}
 use Rattle.text.proofs.scan.begin.Tie as tie
 use Rattle.text.proofs.Laws.Reading.{goes-seq, takes, refuses, stops, alike}
-use Rattle.text.proofs.Laws.Moves.Values.{value-text, value-minus, value-digit, value-false, value-null, value-true, value-none}
+use Rattle.text.proofs.Laws.Moves.Values.{value-text, value-minus, value-digit, value-false, value-null}
+use Rattle.text.proofs.Laws.Moves.Values.{value-true, value-none}
 use Rattle.text.proofs.Laws.Moves.Owing.{same-move}
 use Rattle.text.proofs.Laws.Values.{begins-deep, begins-opened}
 

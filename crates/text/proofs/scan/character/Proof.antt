@@ -7,7 +7,8 @@ use borrow.Author.Needs.{needs}
 use Rattle.text.proofs.scan.character.Statement.{statement}
 use Rattle.text.proofs.scan.character.Tie as tie
 use Rattle.text.proofs.Laws.Reading.{goes-seq, takes, refuses}
-use Rattle.text.proofs.Laws.Moves.Strings.{char-escape, char-plain, char-low, char-high, high-tail, high-two, high-e0, high-ed, high-three, high-f0, high-four, high-f4, high-none}
+use Rattle.text.proofs.Laws.Moves.Strings.{char-escape, char-plain, char-low, char-high, high-tail, high-two}
+use Rattle.text.proofs.Laws.Moves.Strings.{high-e0, high-ed, high-three, high-f0, high-four, high-f4, high-none}
 
 add-i : tie.Need-add-i
 add-i c = search needs

@@ -50,7 +50,8 @@ enum-known-r-2 c = search needs
 
 returns-4 : tie.Need-returns-4
 returns-4 c =
-    let after-space = c .before .before .before .before .before .before .before .before .before .before .space .ensures in
+    let after-space =
+    c .before .before .before .before .before .before .before .before .before .before .space .ensures in
     let if1 = c .before .before .before .before .before .before .before .before .before .if1 in
     let if3 = c .before .before .before .before .before .if3 in
     let after-space2 = c .before .before .before .before .space2 .ensures in
@@ -59,7 +60,8 @@ returns-4 c =
 
 returns-5 : tie.Need-returns-5
 returns-5 c =
-    let after-space = c .before .before .before .before .before .before .before .before .before .before .space .ensures in
+    let after-space =
+    c .before .before .before .before .before .before .before .before .before .before .space .ensures in
     let if1 = c .before .before .before .before .before .before .before .before .before .if1 in
     let if3 = c .before .before .before .before .before .if3 in
     let after-space2 = c .before .before .before .before .space2 .ensures in

@@ -10,7 +10,8 @@ use borrow.Author.Needs.{needs}
 use Rattle.text.proofs.scan.four_hex.Statement.{statement}
 use Rattle.text.proofs.scan.four_hex.Tie as tie
 use Rattle.text.proofs.Laws.Reading.{stay, seq, fall, takes, refuses, stops, peel, spent}
-use Rattle.text.proofs.Laws.Moves.Strings.{hex-digit, hex-upper, hex-lower, hex-below, hex-between, hex-gap, hex-above}
+use Rattle.text.proofs.Laws.Moves.Strings.{hex-digit, hex-upper, hex-lower, hex-below, hex-between, hex-gap}
+use Rattle.text.proofs.Laws.Moves.Strings.{hex-above}
 
 abbrev Inv-loop : tie.InvT-loop
 Inv-loop s at i₀ left₀ i left = Leads s (replicate 4 hex) at (replicate left hex) i

@@ -12,7 +12,8 @@ use Rattle.text.proofs.Laws.Reading.{stay, seq, fall, takes, refuses, s
 use Rattle.text.proofs.Laws.Moves.Bytes.{range-is, range-under, range-over}
 
 abbrev Inv-loop : tie.InvT-loop
-Inv-loop s at lo hi more i₀ low₀ high₀ left₀ i low high left = Leads s (range lo hi ∷ replicate more (range 128 191)) at (range low high ∷ replicate left (range 128 191)) i
+Inv-loop s at lo hi more i₀ low₀ high₀ left₀ i low high left =
+    Leads s (range lo hi ∷ replicate more (range 128 191)) at (range low high ∷ replicate left (range 128 191)) i
 
 abbrev μ-loop : tie.MeasureT-loop
 μ-loop s at lo hi more i₀ low₀ high₀ left₀ i low high left = left
