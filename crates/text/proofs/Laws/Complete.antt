@@ -12,11 +12,11 @@ use Rattle.text.specs.Json.{some-list, element, close-list, comma-list, 
 use Rattle.text.specs.Json.{close-object, comma-object}
 use Rattle.text.specs.Contents.{Ends}
 use Rattle.text.specs.Verdicts.{Text}
-use Rattle.text.specs.declared.scan.Verdict.the-variants.{Whole}
 use Rattle.text.specs.Machine.{Item, Move, pass, go, ws, byte, text, value, first, next, inner, move, from, run}
 use Rattle.text.specs.Machine.{feed, ends, verdictAt}
 use Rattle.text.specs.Machine as M
 use Rattle.text.specs.Reading.{Leads, Done}
+use Rattle.text.specs.declared.scan.Verdict.the-variants.{Whole}
 use Rattle.text.specs.declared.scan.Shape.{Shape}
 use Rattle.text.specs.declared.scan.Shape.the-variants.{List as a-list, Object as an-object}
 use Rattle.text.proofs.Laws.Reading.{seq, frame, takes, alike, from-empty}

@@ -4,8 +4,8 @@ use mathlib.Core.Logic.{inl, inr, ⊎-elim}
 use mathlib.Core.List.{List, [], _∷_, _++_, append-assoc}
 use Prim.Native.Nat.{ℕ, _+_}
 use native.Mathlib.Omega.{arith}
-use types.Run.{OneOf}
 use lib.ListN.{length, length-append}
+use types.Run.{OneOf}
 use Rattle.text.specs.Base.{In}
 use Rattle.text.specs.Json.{Digits, no-digit, digit, Digits₁, digits, Int, zero, from-1-9, Frac, no-frac, frac}
 use Rattle.text.specs.Json.{Sign, no-sign, plus, minus, Exp, no-exp, upper, lower, Number, unsigned, negative}

@@ -1,22 +1,12 @@
 -- White space is passed up to the first byte that is none, so it ends at one place.
-use mathlib.Core.Path.{_≡_, refl, ap, _∙_}
+use mathlib.Core.Path.{_≡_, refl, sym, ap, _∙_}
 use mathlib.Core.List.{List, [], _∷_}
 use Prim.Native.Nat.{ℕ, _≤_}
 use native.Mathlib.Omega.{arith}
-use lib.ListN.{length}
+use lib.ListN.{length, getD}
 use Rattle.text.specs.Base.{At, oneOf}
 use Rattle.text.specs.Json.{White, tab, line-feed, carriage-return, space, Space, no-space, white}
 use Rattle.text.specs.Machine.{pass, go, ws, move, optional}
-use Rattle.text.specs.Reading.{Done}
-use mathlib.Core.List.{List, [], _∷_}
-use Prim.Native.Nat.{ℕ}
-use Rattle.text.specs.Base.{At, oneOf}
-use Rattle.text.specs.Json.{Space}
-use Rattle.text.specs.Machine.{pass, ws, move}
-use mathlib.Core.List.{List, [], _∷_}
-use Prim.Native.Nat.{ℕ, _≤_}
-use Rattle.text.specs.Json.{Space}
-use Rattle.text.specs.Machine.{pass, ws, move}
 use Rattle.text.specs.Reading.{Done}
 use Rattle.text.proofs.Laws.Reading.{seq, takes, passes, skips}
 use Rattle.text.proofs.Laws.Places.{done-unique}
@@ -53,3 +43,8 @@ space-once w p m x q n = done-unique (ws ∷ []) (space-done w p m) (space-done 
 -- white space behind a place, as the code finds it and as the grammar has it
 pub space-is : {s : List ℕ} {i j k b : ℕ} → Done s (ws ∷ []) i j → Space s i k → At s k b → move ws b ≡ pass → k ≡ j
 space-is d w p m = done-unique (ws ∷ []) (space-done w p m) d
+
+-- behind white space stands one byte that is none
+pub space-byte : {s : List ℕ} {i j k b c : ℕ} → Space s i j → At s j b → move ws b ≡ pass → Space s i k → At s k c
+    → move ws c ≡ pass → b ≡ c
+space-byte {s} w p m x q n = sym (p .is) ∙ ap (λ (l : ℕ). getD s l 0) (space-once w p m x q n) ∙ q .is

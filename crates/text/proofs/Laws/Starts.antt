@@ -1,10 +1,10 @@
 -- A value's first byte is told by its production: never white space, never the end of a list.
 use mathlib.Core.Path.{_≡_, refl}
 use mathlib.Core.List.{List, [], _∷_}
+use mathlib.Core.Logic.{⊎-elim}
 use Prim.Native.Nat.{ℕ, zero, _≤_}
 use native.Mathlib.Omega.{arith}
 use types.Run.{OneOf}
-use mathlib.Core.Logic.{⊎-elim}
 use Rattle.text.specs.Base.{At, oneOf}
 use Rattle.text.specs.Json.{Json, Values, Members, zero, from-1-9, Number, unsigned, negative, Spelt, a-value}
 use Rattle.text.specs.Json.{elements, members, Reads, a-null, a-true, a-false, a-number, a-string, empty-list}

@@ -4,9 +4,9 @@ use mathlib.Core.Bool.{Bool, true, false}
 use mathlib.Core.List.{[], _∷_}
 use Prim.Native.Nat.{ℕ, _≤_, _<_}
 use native.Mathlib.Omega.{arith}
+use lib.Dec.{eqb}
 use borrow.Author.Tests.{eq-eqb, ne-eqb}
 use types.Run.{OneOf}
-use lib.Dec.{eqb}
 use Rattle.text.specs.Base.{pick, within}
 use Rattle.text.specs.Machine.{pass, bad, go, ws, byte, range, move}
 use Rattle.text.proofs.Laws.Tests.{inside, under, over, among, outside}

@@ -3,9 +3,9 @@ use mathlib.Core.Path.{_≡_}
 use mathlib.Core.List.{[], _∷_}
 use Prim.Native.Nat.{ℕ, _≤_, _<_}
 use native.Mathlib.Omega.{arith}
+use lib.ListN.{replicate}
 use borrow.Author.Tests.{ne-eqb}
 use types.Run.{OneOf}
-use lib.ListN.{replicate}
 use Rattle.text.specs.Base.{oneOf}
 use Rattle.text.specs.Machine.{bad, go, hex, text, char, escape, letters, sequence, leads, high, owing, move}
 use Rattle.text.proofs.Laws.Tests.{inside, under, over, among, outside}

@@ -2,10 +2,10 @@
 use mathlib.Core.Path.{_≡_, refl}
 use mathlib.Core.Bool.{false}
 use mathlib.Core.List.{[], _∷_, _++_, map}
+use mathlib.Core.Logic.{inl, inr, _⊎_}
 use Prim.Native.Nat.{ℕ, _≤_, _<_}
 use native.Mathlib.Omega.{arith}
 use borrow.Author.Tests.{eq-eqb, ne-eqb}
-use mathlib.Core.Logic.{inl, inr, _⊎_}
 use Rattle.text.specs.Base.{within}
 use Rattle.text.specs.Machine.{bad, go, ws, byte, text, integer, value, first, next, close, before, inner, opener}
 use Rattle.text.specs.Machine.{opens, begins, enters, move}

@@ -11,7 +11,7 @@ use Rattle.text.specs.Json.{close-object, comma-object}
 use Rattle.text.specs.Machine.{move}
 use Rattle.text.proofs.Laws.Parts.{spelt-first}
 use Rattle.text.proofs.Laws.Ends.{ends-rest}
-use Rattle.text.proofs.Laws.Spaces.{space-once}
+use Rattle.text.proofs.Laws.Spaces.{space-once, space-byte}
 use Rattle.text.proofs.Laws.Starts.{Starts, elements-start, members-start}
 use Rattle.text.proofs.Laws.Once.Readings.{clash, Same, Once, moved}
 use Rattle.text.proofs.Laws.Once.Leaves.{number-opens}
@@ -56,9 +56,7 @@ module _ {s : List ℕ} where
       by : Listed s u i f → Same Json (list no-more) u (j + 1) f
       by (none e g x p) = let z = space-once w c refl x p refl in record { what = sym e; stop = omega arith }
       by (some us e x p) =
-          let v = elements-start p in
-          let z = space-once w c refl x (v .at) (v .black) in
-          absurd (v .inner (clash (v .at) (subst (λ (n : ℕ). At s n 93) z c)))
+          let v = elements-start p in absurd (v .inner (space-byte x (v .at) (v .black) w c refl))
 
   pub some-list-once : {i j e : ℕ} {ts : Values} → At s i 91 → Space s (i + 1) j → Reads s (elements ts) j e
       → Once s (elements ts) j e → Once s (a-value (list ts)) i e
@@ -66,9 +64,7 @@ module _ {s : List ℕ} where
   some-list-once {i} {j} {e} {ts} o w q on u f r d = let v = elements-start q in by v (listed o r)
     where
       by : Starts s j → Listed s u i f → Same Json (list ts) u e f
-      by v (none g h x p) =
-          let z = space-once w (v .at) (v .black) x p refl in
-          absurd (v .inner (clash (v .at) (subst (λ (n : ℕ). At s n 93) (sym z) p)))
+      by v (none g h x p) = absurd (v .inner (space-byte w (v .at) (v .black) x p refl))
       by v (some us g x p) =
           let y = elements-start p in
           let z = space-once x (y .at) (y .black) w (v .at) (v .black) in
@@ -82,10 +78,7 @@ module _ {s : List ℕ} where
     where
       by : Objected s u i f → Same Json (object no-members) u (j + 1) f
       by (none e g x p) = let z = space-once w c refl x p refl in record { what = sym e; stop = omega arith }
-      by (some us e x p) =
-          let v = members-start p in
-          let z = space-once w c refl x v refl in
-          absurd (let y = clash v (subst (λ (n : ℕ). At s n 125) z c) in omega arith)
+      by (some us e x p) = absurd (let y = space-byte w c refl x (members-start p) refl in omega arith)
 
   pub some-object-once : {i j e : ℕ} {ms : Members} → At s i 123 → Space s (i + 1) j → Reads s (members ms) j e
       → Once s (members ms) j e → Once s (a-value (object ms)) i e
@@ -93,9 +86,7 @@ module _ {s : List ℕ} where
   some-object-once {i} {j} {e} {ms} o w q on u f r d = let v = members-start q in by v (objected o r)
     where
       by : At s j 34 → Objected s u i f → Same Json (object ms) u e f
-      by v (none g h x p) =
-          let z = space-once w v refl x p refl in
-          absurd (let y = clash v (subst (λ (n : ℕ). At s n 125) (sym z) p) in omega arith)
+      by v (none g h x p) = absurd (let y = space-byte w v refl x p refl in omega arith)
       by v (some us g x p) =
           let z = space-once x (members-start p) refl w v refl in
           let m = on us f (moved (members us) z p) in
@@ -112,14 +103,12 @@ module _ {s : List ℕ} where
   unfolding move oneOf
   close-list-once w c u f (close-list x p) =
       let z = space-once w c refl x p refl in record { what = refl; stop = ap (λ (n : ℕ). n + 1) z }
-  close-list-once w c u f (comma-list x p y r) =
-      let z = space-once w c refl x p refl in absurd (let k = clash p (subst (λ (n : ℕ). At s n 93) z c) in omega arith)
+  close-list-once w c u f (comma-list x p y r) = absurd (let k = space-byte w c refl x p refl in omega arith)
 
   pub comma-list-once : {i j k e : ℕ} {ts : Values} → Space s i j → At s j 44 → Space s (j + 1) k
       → Reads s (elements ts) k e → Once s (elements ts) k e → Once s (rest ts) i e
   unfolding move oneOf
-  comma-list-once w c y q on u f (close-list x p) =
-      let z = space-once w c refl x p refl in absurd (let k = clash p (subst (λ (n : ℕ). At s n 44) z c) in omega arith)
+  comma-list-once w c y q on u f (close-list x p) = absurd (let k = space-byte w c refl x p refl in omega arith)
   comma-list-once {k = k} w c y q on u f (comma-list {k = l} x p g r) =
       let z = space-once x p refl w c refl in
       let v = elements-start q in
@@ -131,15 +120,12 @@ module _ {s : List ℕ} where
   unfolding move oneOf
   close-object-once w c u f (close-object x p) =
       let z = space-once w c refl x p refl in record { what = refl; stop = ap (λ (n : ℕ). n + 1) z }
-  close-object-once w c u f (comma-object x p y r) =
-      let z = space-once w c refl x p refl in
-      absurd (let k = clash p (subst (λ (n : ℕ). At s n 125) z c) in omega arith)
+  close-object-once w c u f (comma-object x p y r) = absurd (let k = space-byte w c refl x p refl in omega arith)
 
   pub comma-object-once : {i j k e : ℕ} {ms : Members} → Space s i j → At s j 44 → Space s (j + 1) k
       → Reads s (members ms) k e → Once s (members ms) k e → Once s (more ms) i e
   unfolding move oneOf
-  comma-object-once w c y q on u f (close-object x p) =
-      let z = space-once w c refl x p refl in absurd (let k = clash p (subst (λ (n : ℕ). At s n 44) z c) in omega arith)
+  comma-object-once w c y q on u f (close-object x p) = absurd (let k = space-byte w c refl x p refl in omega arith)
   comma-object-once {k = k} w c y q on u f (comma-object {k = l} x p g r) =
       let z = space-once x p refl w c refl in
       let b = space-once (subst (λ (n : ℕ). Space s (n + 1) l) z g) (members-start r) refl y (members-start q) refl in

@@ -2,6 +2,7 @@
 use mathlib.Core.List.{List, _∷_, _++_}
 use Prim.Native.Nat.{ℕ, _≤_, _<_}
 use lib.ListN.{length}
+use native.Mathlib.Omega.{arith}
 use Rattle.text.specs.Json.{Json, Values, Members, depth, depths, depthm, Piece, a-value, elements, rest, members}
 use Rattle.text.specs.Json.{more, Reads}
 use Rattle.text.specs.Machine.{Item, ws, value, next, before, inner}
@@ -17,6 +18,15 @@ pub record Found (A : Type 0) (piece : A → Piece) (size : A → ℕ) (s : List
     pub shallow : size what ≤ n
     pub later : i < stop
     pub next : Alive s ys stop
+
+module _ {A : Type 0} {piece : A → Piece} {size : A → ℕ} {s : List ℕ} {n : ℕ} {ys : List Item} {i : ℕ} where
+  pub found : (x : A) (e : ℕ) → Reads s (piece x) i e → size x ≤ n → i < e → Alive s ys e → Found A piece size s n ys i
+  found x e r h l v = record { what = x; stop = e; reads = r; shallow = h; later = l; next = v }
+
+  -- a piece that ends with one found later
+  pub found-with : {B : Type 0} {part : B → Piece} {sizes : B → ℕ} {m j : ℕ} (r : Found B part sizes s m ys j) (x : A)
+      → Reads s (piece x) i (r .stop) → size x ≤ n → i ≤ j → Found A piece size s n ys i
+  found-with r x q h l = found x (r .stop) q h (omega (arith, r .later)) (r .next)
 
 abbrev pub Value : List ℕ → ℕ → List Item → ℕ → Type 0
 Value s n ys i = Found Json a-value depth s n ys i
