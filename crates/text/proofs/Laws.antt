@@ -1,3 +1,4 @@
+-- Laws of the definitions in specs/: each file rests only on files named before it.
 pub mod Tests
 pub mod Reading
 pub mod Moves

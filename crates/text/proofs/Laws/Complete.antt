@@ -1,4 +1,4 @@
--- What the grammar reads the twin passes: by induction on the reading, since what follows a value in a text stops every number.
+-- What the grammar reads the twin passes, by induction on the reading: what follows a value stops every number.
 use mathlib.Core.Path.{_≡_, refl, sym, ap, _∙_}
 use mathlib.Core.List.{List, [], _∷_, _++_, map}
 use Prim.Native.Nat.{ℕ, zero, suc, _+_, _≤_}
@@ -15,11 +15,11 @@ use Rattle.text.specs.Verdicts.{Text}
 use Rattle.text.specs.Machine.{Item, Move, pass, go, ws, byte, text, value, first, next, inner, move, from, run}
 use Rattle.text.specs.Machine.{feed, ends, verdictAt}
 use Rattle.text.specs.Machine as M
-use Rattle.text.specs.Reading.{Leads, Done}
+use Rattle.text.specs.Reading.{Done}
 use Rattle.text.specs.declared.scan.Verdict.the-variants.{Whole}
 use Rattle.text.specs.declared.scan.Shape.{Shape}
 use Rattle.text.specs.declared.scan.Shape.the-variants.{List as a-list, Object as an-object}
-use Rattle.text.proofs.Laws.Reading.{seq, frame, takes, alike, from-empty}
+use Rattle.text.proofs.Laws.Reading.{takes-at, seq, frame, alike, from-empty}
 use Rattle.text.proofs.Laws.Values.{next-goes}
 use Rattle.text.proofs.Laws.Parts.{spelt-drop, spelt-length}
 use Rattle.text.proofs.Laws.Eating.{eats-done, word-eats, run-takes}
@@ -66,29 +66,21 @@ body-done {s} {w} {i} {e} p =
     let z = p .past in
     let there : i + 1 + length w + 1 ≡ e = omega arith in
     let past : suc q ≡ e = omega arith in
+    let ahead : drop q s ≡ 34 ∷ drop (suc q) s = drop-cons s q 0 h ∙ ap (λ (x : ℕ). x ∷ drop (suc q) s) (p .closes .is) in
+    let all : drop (i + 1) s ≡ w ++ (34 ∷ drop (suc q) s) = spelt-drop (p .spelt) ∙ ap (λ (x : List ℕ). w ++ x) ahead in
     record {
       low = omega (arith, p .spelt .order);
       high = omega arith;
-      goes =
-          λ k.
-          ap (λ (x : List ℕ). run (text ∷ k) x (i + 1))
-          (spelt-drop (p .spelt)
-          ∙ ap (λ (x : List ℕ). w ++ x)
-          (drop-cons s q 0 h ∙ ap (λ (x : ℕ). x ∷ drop (suc q) s) (p .closes .is)))
+      goes = λ k. ap (λ (x : List ℕ). run (text ∷ k) x (i + 1)) all
           ∙ text-eat (p .body) k (drop (suc q) s) (i + 1)
           ∙ ap (run k (drop (suc q) s)) there
           ∙ ap (λ (n : ℕ). run k (drop n s) e) past;
     }
 
 pub quoted-done : {s w : List ℕ} {i e : ℕ} → Quoted s w i e → Done s (byte 34 ∷ text ∷ []) i e
-quoted-done {s} {w} {i} p =
-    seq (takes (byte 34) (text ∷ []) [] (p .opens .inside) (byte-is (getD s i 0) 34 (p .opens .is))) (body-done p)
+quoted-done p = seq (takes-at (byte 34) (text ∷ []) (p .opens) [] (byte-is 34 34 refl)) (body-done p)
 
 module _ {s : List ℕ} where
-  eat-byte : {i b : ℕ} (x : Item) (xs ys : List Item) → At s i b → move x b ≡ go xs
-      → Leads s (x ∷ ys) i (xs ++ ys) (i + 1)
-  eat-byte {i} {b} x xs ys p e = takes x ys xs (p .inside) (ap (move x) (p .is) ∙ e)
-
   word-done : {i e : ℕ} (n b : ℕ) (w : List ℕ) → Spelt s (b ∷ w) i e → move (value n) b ≡ go (map byte w)
       → Done s (value n ∷ []) i e
   word-done {i} {e} n b w p m =
@@ -102,27 +94,25 @@ module _ {s : List ℕ} where
   open-done : {i j e : ℕ} (sh : Shape) (n b : ℕ) → At s i (M.opener sh) → Space s (i + 1) j → At s j b
       → move ws b ≡ pass → Done s (first sh n ∷ []) j e → Done s (value (suc n) ∷ []) i e
   open-done {i} sh n b o w p m r =
-      seq (eat-byte (value (suc n)) (ws ∷ first sh n ∷ []) [] o (value-opens (M.opener sh) (suc n) sh refl))
+      seq (takes-at (value (suc n)) [] o (ws ∷ first sh n ∷ []) (value-opens (M.opener sh) (suc n) sh refl))
       (seq (frame (first sh n ∷ []) (space-done w p m)) r)
 
   enter-list : {i e : ℕ} (n : ℕ) → Starts s i → Done s (inner a-list n) i e → Done s (first a-list n ∷ []) i e
   enter-list {i} n v r =
-      seq
-      (alike (first a-list n ∷ []) (inner a-list n) (v .at .inside)
-      (first-enters (getD s i 0) a-list n (λ z. v .inner (sym (v .at .is) ∙ z)))) r
+      let e = first-enters (getD s i 0) a-list n (λ z. v .inner (sym (v .at .is) ∙ z)) in
+      seq (alike (first a-list n ∷ []) (inner a-list n) (v .at .inside) e) r
 
   enter-object : {i e : ℕ} (n : ℕ) → At s i 34 → Done s (M.before an-object ++ inner an-object n) i e
       → Done s (first an-object n ∷ []) i e
   enter-object {i} n p r =
       let z = p .is in
-      seq
-      (alike (first an-object n ∷ []) (M.before an-object ++ inner an-object n) (p .inside)
-      (first-enters (getD s i 0) an-object n (omega arith))) r
+      let e = first-enters (getD s i 0) an-object n (omega arith) in
+      seq (alike (first an-object n ∷ []) (M.before an-object ++ inner an-object n) (p .inside) e) r
 
   close-done : {i j : ℕ} (sh : Shape) (n : ℕ) → Space s i j → At s j (M.close sh) → move ws (M.close sh) ≡ pass
       → Done s (ws ∷ next sh n ∷ []) i (j + 1)
   close-done sh n w p m =
-      seq (frame (next sh n ∷ []) (space-done w p m)) (eat-byte (next sh n) [] [] p (next-close (M.close sh) sh n refl))
+      seq (frame (next sh n ∷ []) (space-done w p m)) (takes-at (next sh n) [] p [] (next-close (M.close sh) sh n refl))
 
   comma-done : {i j k b e : ℕ} (sh : Shape) (n : ℕ) → Space s i j → At s j 44 → Space s (j + 1) k → At s k b
       → move ws b ≡ pass → Done s (M.before sh ++ inner sh n) k e → Done s (ws ∷ next sh n ∷ []) i e
@@ -149,7 +139,7 @@ reads-done {s} n (a-string {i} p) h c =
     (quoted-done p)
 reads-done zero (empty-list o w p) h c = absurd (omega arith)
 reads-done (suc n) (empty-list o w p) h c =
-    open-done a-list n 93 o w p refl (eat-byte (first a-list n) [] [] p (first-close 93 a-list n refl))
+    open-done a-list n 93 o w p refl (takes-at (first a-list n) [] p [] (first-close 93 a-list n refl))
 reads-done zero (some-list o w r) h c = absurd (omega arith)
 reads-done (suc n) (some-list o w r) h c =
     let v = elements-start r in
@@ -161,7 +151,7 @@ reads-done n (comma-list w o x r) h c =
     let v = elements-start r in comma-done a-list n w o x (v .at) (v .black) (reads-done n r h tt)
 reads-done zero (empty-object o w p) h c = absurd (omega arith)
 reads-done (suc n) (empty-object o w p) h c =
-    open-done an-object n 125 o w p refl (eat-byte (first an-object n) [] [] p (first-close 125 an-object n refl))
+    open-done an-object n 125 o w p refl (takes-at (first an-object n) [] p [] (first-close 125 an-object n refl))
 reads-done zero (some-object o w r) h c = absurd (omega arith)
 reads-done (suc n) (some-object o w r) h c =
     let v = members-start r in open-done an-object n 34 o w v refl (enter-object n v (reads-done n r (omega arith) tt))
@@ -169,9 +159,10 @@ reads-done n (member {t = t} {ms = ms} q w o x v r) h c =
     let b = value-starts v in
     seq (frame (ws ∷ byte 58 ∷ ws ∷ inner an-object n) (quoted-done q))
     (seq (frame (byte 58 ∷ ws ∷ inner an-object n) (space-done w o refl))
-    (seq (eat-byte (byte 58) [] (ws ∷ inner an-object n) o (byte-is 58 58 refl))
+    (seq (takes-at (byte 58) (ws ∷ inner an-object n) o [] (byte-is 58 58 refl))
     (seq (frame (inner an-object n) (space-done x (b .at) (b .black)))
-    (seq (frame (ws ∷ next an-object n ∷ []) (reads-done n v (omega arith) (ends-more r))) (reads-done n r (omega arith) tt)))))
+    (seq (frame (ws ∷ next an-object n ∷ []) (reads-done n v (omega arith) (ends-more r)))
+    (reads-done n r (omega arith) tt)))))
 reads-done n (close-object w p) h c = close-done an-object n w p refl
 reads-done n (comma-object w o x r) h c = comma-done an-object n w o x (members-start r) refl (reads-done n r h tt)
 

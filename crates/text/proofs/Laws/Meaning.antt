@@ -1,4 +1,4 @@
--- The scan's verdict is the one that specs/Verdicts means, and the only one: the twin agrees with the grammar both ways.
+-- The scan's verdict is what specs/Verdicts means, and only that: the twin agrees with the grammar both ways.
 use mathlib.Core.Path.{_≡_}
 use mathlib.Core.List.{List}
 use Prim.Native.Nat.{ℕ}

@@ -7,7 +7,7 @@ use native.Mathlib.Numerals.{add-one, sub-one}
 use native.Mathlib.Omega.{arith}
 use lib.ListN.{length, drop, getD, replicate}
 use lib.Seq.{drop-cons, drop-length}
-use Rattle.text.specs.Base.{pick}
+use Rattle.text.specs.Base.{pick, At}
 use Rattle.text.specs.Machine.{Item, pass, bad, deep, go, byte, move, optional, feed, ends, after, run, from}
 use Rattle.text.specs.Reading.{Leads, Done, Falls, Goes}
 use Rattle.text.specs.declared.scan.Verdict.{Verdict}
@@ -112,6 +112,17 @@ module _ {s : List ℕ} {i : ℕ} (x : Item) (ys : List Item) where
         high = omega arith;
         goes = λ k. from-empty (x ∷ (ys ++ k)) s i h ∙ rw e (sym (from-empty (ys ++ k) s i h));
       }
+
+-- the same of a byte that is known
+module _ {s : List ℕ} {i b : ℕ} (x : Item) (ys : List Item) (p : At s i b) where
+  pub takes-at : (xs : List Item) → move x b ≡ go xs → Leads s (x ∷ ys) i (xs ++ ys) (i + 1)
+  takes-at xs e = takes x ys xs (p .inside) (ap (move x) (p .is) ∙ e)
+
+  pub refuses-at : move x b ≡ bad → Falls s (x ∷ ys) i (Breaks i)
+  refuses-at e = refuses x ys (p .inside) (ap (move x) (p .is) ∙ e)
+
+  pub passes-at : move x b ≡ pass → Leads s (x ∷ ys) i ys i
+  passes-at e = passes x ys (p .inside) (ap (move x) (p .is) ∙ e)
 
 -- items that meet a byte alike
 pub alike : {s : List ℕ} {i : ℕ} (xs ys : List Item) → i < length s

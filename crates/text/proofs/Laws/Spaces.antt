@@ -8,7 +8,7 @@ use Rattle.text.specs.Base.{At, oneOf}
 use Rattle.text.specs.Json.{White, tab, line-feed, carriage-return, space, Space, no-space, white}
 use Rattle.text.specs.Machine.{pass, go, ws, move, optional}
 use Rattle.text.specs.Reading.{Done}
-use Rattle.text.proofs.Laws.Reading.{seq, takes, passes, skips}
+use Rattle.text.proofs.Laws.Reading.{seq, skips, takes-at, passes-at}
 use Rattle.text.proofs.Laws.Places.{done-unique}
 
 pub white-moves : {b : ℕ} → White b → move ws b ≡ go (ws ∷ [])
@@ -20,16 +20,14 @@ white-moves space = refl
 
 -- all of it, before a byte that is none
 pub space-done : {s : List ℕ} {i e b : ℕ} → Space s i e → At s e b → move ws b ≡ pass → Done s (ws ∷ []) i e
-space-done (no-space h) p m = passes ws [] (p .inside) (ap (move ws) (p .is) ∙ m)
-space-done {s} {i} (white q v r) p m =
-    seq (takes ws [] (ws ∷ []) (q .inside) (ap (move ws) (q .is) ∙ white-moves v)) (space-done r p m)
+space-done (no-space h) p m = passes-at ws [] p m
+space-done (white q v r) p m = seq (takes-at ws [] q (ws ∷ []) (white-moves v)) (space-done r p m)
 
 -- all of it, to the end of the text
 pub space-end : {s : List ℕ} {i : ℕ} → Space s i (length s) → Done s (ws ∷ []) i (length s)
 unfolding optional
 space-end (no-space h) = skips ws [] refl refl
-space-end {s} {i} (white q v r) =
-    seq (takes ws [] (ws ∷ []) (q .inside) (ap (move ws) (q .is) ∙ white-moves v)) (space-end r)
+space-end (white q v r) = seq (takes-at ws [] q (ws ∷ []) (white-moves v)) (space-end r)
 
 pub space-low : {s : List ℕ} {i e : ℕ} → Space s i e → i ≤ e
 space-low (no-space h) = omega arith

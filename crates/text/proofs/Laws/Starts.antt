@@ -22,25 +22,33 @@ pub record Starts (s : List ℕ) (i : ℕ) : Type 0 where
 starts : {s : List ℕ} {i : ℕ} (b : ℕ) → At s i b → move ws b ≡ pass → (b ≡ 93 → ⊥) → Starts s i
 starts b p m h = record { first = b; at = p; black = m; inner = h }
 
-digit-black : (d : ℕ) → 48 ≤ d → d ≤ 57 → move ws d ≡ pass
-digit-black d l u = ws-over d (omega arith) (λ o. no-key o)
-  where
-    no-key : OneOf (13 ∷ 32 ∷ []) d → ⊥
-    no-key o = ⊎-elim (λ e. omega arith) (λ e. omega arith) o
+-- a number begins with its sign or a digit
+pub record Numeral (s : List ℕ) (i : ℕ) : Type 0 where
+  pub first : ℕ
+  pub at : At s i first
+  pub low : 45 ≤ first
+  pub high : first ≤ 57
 
-number-starts : {s w : List ℕ} {i e : ℕ} → Number w → Spelt s w i e → Starts s i
-unfolding move oneOf
-number-starts (unsigned zero f x) p = starts 48 (spelt-first p) refl (omega arith)
-number-starts (unsigned (from-1-9 {d} h t) f x) p =
-    let l = h .low in let u = h .high in starts d (spelt-first p) (digit-black d (omega arith) u) (omega arith)
-number-starts (negative i f x) p = starts 45 (spelt-first p) refl (omega arith)
+pub number-first : {s w : List ℕ} {i e : ℕ} → Number w → Spelt s w i e → Numeral s i
+number-first (unsigned zero f x) p =
+    record { first = 48; at = spelt-first p; low = omega arith; high = omega arith }
+number-first (unsigned (from-1-9 {d} h t) f x) p =
+    record { first = d; at = spelt-first p; low = omega (arith, h .low); high = h .high }
+number-first (negative i f x) p =
+    record { first = 45; at = spelt-first p; low = omega arith; high = omega arith }
+
+number-starts : {s : List ℕ} {i : ℕ} → Numeral s i → Starts s i
+number-starts b = starts (b .first) (b .at) (ws-over (b .first) (omega arith) (λ o. no-key o)) (omega arith)
+  where
+    no-key : OneOf (13 ∷ 32 ∷ []) (b .first) → ⊥
+    no-key o = ⊎-elim (λ e. omega arith) (λ e. omega arith) o
 
 pub value-starts : {s : List ℕ} {i e : ℕ} {t : Json} → Reads s (a-value t) i e → Starts s i
 unfolding move oneOf
 value-starts (a-null p) = starts 110 (spelt-first p) refl (omega arith)
 value-starts (a-true p) = starts 116 (spelt-first p) refl (omega arith)
 value-starts (a-false p) = starts 102 (spelt-first p) refl (omega arith)
-value-starts (a-number p n) = number-starts n p
+value-starts (a-number p n) = number-starts (number-first n p)
 value-starts (a-string p) = starts 34 (p .opens) refl (omega arith)
 value-starts (empty-list o w c) = starts 91 o refl (omega arith)
 value-starts (some-list o w r) = starts 91 o refl (omega arith)

@@ -1,18 +1,19 @@
 -- A value's kind is told by its first byte.
 use mathlib.Core.Path.{_≡_, sym, ap, _∙_}
 use mathlib.Core.List.{List}
-use Prim.Native.Nat.{ℕ, zero, _<_}
+use Prim.Native.Nat.{ℕ}
 use native.Mathlib.Omega.{arith}
 use lib.Dec.{eqb}
 use lib.ListN.{getD}
 use borrow.Author.Tests.{ne-eqb}
 use Rattle.text.specs.Base.{pick}
-use Rattle.text.specs.Json.{Json, Number, unsigned, negative, zero, from-1-9, Spelt, a-value, Reads, a-null}
+use Rattle.text.specs.Json.{Json, a-value, Reads, a-null}
 use Rattle.text.specs.Json.{a-true, a-false, a-number, a-string, empty-list, some-list, empty-object, some-object}
 use Rattle.text.specs.Contents.{Stands, kindOf}
 use Rattle.text.specs.declared.walk.Kind.{Kind}
 use Rattle.text.specs.declared.walk.Kind.the-variants as K
 use Rattle.text.proofs.Laws.Parts.{spelt-first}
+use Rattle.text.proofs.Laws.Starts.{Numeral, number-first}
 
 unfoldable pub kindBy : ℕ → Kind
 kindBy b =
@@ -29,21 +30,17 @@ unfolding kindBy
 kind-number b n1 n2 n3 n4 n5 n6 =
     rw (ne-eqb b 34 n1, ne-eqb b 91 n2, ne-eqb b 102 n3, ne-eqb b 110 n4, ne-eqb b 116 n5, ne-eqb b 123 n6)
 
-kind-low : (b : ℕ) → (b ≡ 34 → ⊥) → b < 91 → kindBy b ≡ K.Number
-kind-low b n h = kind-number b n (omega arith) (omega arith) (omega arith) (omega arith) (omega arith)
-
-number-first : {s w : List ℕ} {v e : ℕ} → Number w → Spelt s w v e → kindBy (getD s v 0) ≡ K.Number
-number-first (unsigned zero f x) p = let z = spelt-first p .is in kind-low _ (omega arith) (omega arith)
-number-first (unsigned (from-1-9 {d} h t) f x) p =
-    let z = spelt-first p .is in let l = h .low in let u = h .high in kind-low _ (omega arith) (omega arith)
-number-first (negative i f x) p = let z = spelt-first p .is in kind-low _ (omega arith) (omega arith)
+kind-low : {s : List ℕ} {i : ℕ} → Numeral s i → kindBy (getD s i 0) ≡ K.Number
+kind-low {s} {i} b =
+    let z = b .at .is in
+    kind-number _ (omega arith) (omega arith) (omega arith) (omega arith) (omega arith) (omega arith)
 
 kind-first : {s : List ℕ} {t : Json} {v e : ℕ} → Reads s (a-value t) v e → kindBy (getD s v 0) ≡ kindOf t
 unfolding kindBy
 kind-first (a-null p) = rw (spelt-first p .is)
 kind-first (a-true p) = rw (spelt-first p .is)
 kind-first (a-false p) = rw (spelt-first p .is)
-kind-first (a-number p n) = number-first n p
+kind-first (a-number p n) = kind-low (number-first n p)
 kind-first (a-string p) = rw (p .opens .is)
 kind-first (empty-list o w p) = rw (o .is)
 kind-first (some-list o w r) = rw (o .is)

@@ -2,19 +2,20 @@
 use mathlib.Core.Path.{_≡_, refl, sym, ap, _∙_}
 use mathlib.Core.Bool.{true, false}
 use mathlib.Core.List.{List, [], _∷_}
-use Prim.Native.Nat.{ℕ, _+_, _-_, _<_}
+use Prim.Native.Nat.{ℕ, _+_, _-_}
 use native.Mathlib.Omega.{arith}
 use lib.Dec.{eqb}
 use lib.ListN.{getD}
 use borrow.Author.Tests.{ne-eqb}
 use Rattle.text.specs.Base.{pick, At, part}
-use Rattle.text.specs.Json.{Json, null, bool, number, string, depth, Number, unsigned, negative, zero, from-1-9}
+use Rattle.text.specs.Json.{Json, null, bool, number, string, depth, Number}
 use Rattle.text.specs.Json.{Spelt, a-value, Reads, a-null, a-true, a-false, a-number, a-string, empty-list}
 use Rattle.text.specs.Json.{some-list, empty-object, some-object}
 use Rattle.text.specs.Contents.{Ends}
 use Rattle.text.specs.Machine.{value}
 use Rattle.text.proofs.Laws.Places.{done-unique}
 use Rattle.text.proofs.Laws.Parts.{spelt-first}
+use Rattle.text.proofs.Laws.Starts.{number-first}
 use Rattle.text.proofs.Laws.Complete.{reads-done}
 use Rattle.text.proofs.Laws.Once.Readings.{Same, Once}
 
@@ -26,11 +27,11 @@ leafOf s i e =
     (pick (eqb (getD s i 0) 110) null
     (pick (eqb (getD s i 0) 116) (bool true) (number (part s i e)))))
 
-number-leaf : {s w : List ℕ} {i e : ℕ} (b : ℕ) → At s i b → b < 102 → (b ≡ 34 → ⊥) → Spelt s w i e
-    → number w ≡ leafOf s i e
+number-is : {s w : List ℕ} {i e : ℕ} → Number w → Spelt s w i e → number w ≡ leafOf s i e
 unfolding leafOf
-number-leaf {s} {w} {i} {e} b p h n q =
-    let z = p .is in
+number-is {s} {w} {i} {e} n q =
+    let b = number-first n q in
+    let z = b .at .is in
     rw (
       ne-eqb (getD s i 0) 34 (omega arith),
       ne-eqb (getD s i 0) 102 (omega arith),
@@ -38,12 +39,6 @@ number-leaf {s} {w} {i} {e} b p h n q =
       ne-eqb (getD s i 0) 116 (omega arith),
     )
     (ap number (sym (q .is)))
-
-number-is : {s w : List ℕ} {i e : ℕ} → Number w → Spelt s w i e → number w ≡ leafOf s i e
-number-is (unsigned zero f x) p = number-leaf 48 (spelt-first p) (omega arith) (omega arith) p
-number-is (unsigned (from-1-9 {d} h t) f x) p =
-    let l = h .low in let u = h .high in number-leaf d (spelt-first p) (omega arith) (omega arith) p
-number-is (negative i f x) p = number-leaf 45 (spelt-first p) (omega arith) (omega arith) p
 
 pub record Opens (s : List ℕ) (i : ℕ) : Type 0 where
   pub no-list : getD s i 0 ≡ 91 → ⊥
@@ -69,10 +64,7 @@ pub opens-not : {s : List ℕ} {i : ℕ} (b : ℕ) → At s i b → (b ≡ 91 �
 opens-not b p n m = record { no-list = λ e. n (sym (p .is) ∙ e); no-object = λ e. m (sym (p .is) ∙ e) }
 
 pub number-opens : {s w : List ℕ} {i e : ℕ} → Number w → Spelt s w i e → Opens s i
-number-opens (unsigned zero f x) p = opens-not 48 (spelt-first p) (omega arith) (omega arith)
-number-opens (unsigned (from-1-9 {d} h t) f x) p =
-    let u = h .high in opens-not d (spelt-first p) (omega arith) (omega arith)
-number-opens (negative i f x) p = opens-not 45 (spelt-first p) (omega arith) (omega arith)
+number-opens n p = let b = number-first n p in opens-not (b .first) (b .at) (omega arith) (omega arith)
 
 leaf-once : {s : List ℕ} {i e : ℕ} {t : Json} → Opens s i → depth t ≡ 0 → Reads s (a-value t) i e → Ends s e
     → (u : Json) (f : ℕ) → Reads s (a-value u) i f → Ends s f → depth u ≡ 0 → Same Json t u e f

@@ -97,9 +97,8 @@ took-escape {s} {i} ys o v = by (alive-inside escape ys refl v) (short-or (getD 
           next = alive-takes escape ys v [] h (short-is g);
         }
     by h (is-long e) =
-        let p =
-        alive-hex (hex ∷ hex ∷ hex ∷ ys)
-        (alive-takes escape ys v (replicate 4 hex) h (escape-hex (getD s (i + 1) 0) e)) in
+        let a = alive-takes escape ys v (replicate 4 hex) h (escape-hex (getD s (i + 1) 0) e) in
+        let p = alive-hex (hex ∷ hex ∷ hex ∷ ys) a in
         let q = alive-hex (hex ∷ hex ∷ ys) (p .next) in
         let r = alive-hex (hex ∷ ys) (q .next) in
         let t = alive-hex ys (r .next) in

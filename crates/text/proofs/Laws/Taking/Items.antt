@@ -9,9 +9,10 @@ use lib.ListN.{length, getD}
 use Rattle.text.specs.Base.{In, At}
 use Rattle.text.specs.Json.{zero, Spelt}
 use Rattle.text.specs.Machine.{Item, pass, bad, go, byte, range, move, optional}
-use Rattle.text.proofs.Laws.Reading.{takes, refuses, passes, skips}
+use Rattle.text.proofs.Laws.Reading.{takes, refuses, passes, skips, alike}
 use Rattle.text.proofs.Laws.Places.{Alive, alive-fall, alive-seq, alive-inside}
-use Rattle.text.proofs.Laws.Parts.{spelt-none}
+use Rattle.text.proofs.Laws.Parts.{spelt-none, spelt-cons, spelt-append}
+use Rattle.text.proofs.Laws.Moves.Owing.{same-move}
 use Rattle.text.proofs.Laws.Moves.Bytes.{byte-is, byte-not, range-is, range-over, range-under}
 
 -- from the end of a text back to any place
@@ -50,8 +51,29 @@ module _ {s : List ℕ} {i : ℕ} (x : Item) (ys : List Item) (v : Alive s (x �
   pub took-none : {P : List ℕ → Type 0} → P [] → Alive s ys i → Took P s ys i
   took-none p a = record { word = []; stop = i; spelt = spelt-none (v .high); good = p; next = a }
 
+  -- another item that meets the byte alike
+  pub alive-alike : (y : Item) → i < length s → move x (getD s i 0) ≡ move y (getD s i 0) → Alive s (y ∷ ys) i
+  alive-alike y h e = alive-seq v (alike (x ∷ ys) (y ∷ ys) h (λ k. same-move (getD s i 0) x y e (ys ++ k)))
+
 pub here : (s : List ℕ) (i : ℕ) → i < length s → At s i (getD s i 0)
 here s i h = record { inside = h; is = refl }
+
+-- a byte before what is taken, and before two runs of bytes
+module _ {P Q : List ℕ → Type 0} {s : List ℕ} {ys : List Item} {i b : ℕ} (a : At s i b) where
+  pub took-cons : (r : Took P s ys (i + 1)) → Q (b ∷ r .word) → Took Q s ys i
+  took-cons r g =
+      record { word = b ∷ r .word; stop = r .stop; spelt = spelt-cons a (r .spelt); good = g; next = r .next }
+
+  pub took-two : {R : List ℕ → Type 0} {zs : List Item} (p : Took P s zs (i + 1)) (q : Took Q s ys (p .stop))
+      → R (b ∷ (p .word ++ q .word)) → Took R s ys i
+  took-two p q g =
+      record {
+        word = b ∷ (p .word ++ q .word);
+        stop = q .stop;
+        spelt = spelt-cons a (spelt-append (p .spelt) (q .spelt));
+        good = g;
+        next = q .next;
+      }
 
 -- a byte that is due, by number and by range
 pub record Due (s : List ℕ) (b : ℕ) (ys : List Item) (i : ℕ) : Type 0 where

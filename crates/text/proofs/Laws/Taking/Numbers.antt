@@ -11,16 +11,14 @@ use Rattle.text.specs.Json.{Digits, no-digit, digit, Digits₁, digits, 
 use Rattle.text.specs.Json.{Sign, no-sign, plus, minus, Exp, no-exp, upper, lower, Spelt}
 use Rattle.text.specs.Machine.{Item, integer, fraction, exponent, sign, optional}
 use Rattle.text.specs.Machine as M
-use Rattle.text.proofs.Laws.Reading.{alike}
-use Rattle.text.proofs.Laws.Places.{Alive, alive-seq, alive-inside}
-use Rattle.text.proofs.Laws.Parts.{spelt-one, spelt-cons, spelt-append, spelt-length}
+use Rattle.text.proofs.Laws.Places.{Alive, alive-inside}
+use Rattle.text.proofs.Laws.Parts.{spelt-one, spelt-length}
 use Rattle.text.proofs.Laws.Moves.Numbers.{digit-is, digit-over, digit-under, digits-is, digits-over}
 use Rattle.text.proofs.Laws.Moves.Numbers.{digits-under, exponent-is, exponent-not, fraction-is, fraction-not}
 use Rattle.text.proofs.Laws.Moves.Numbers.{integer-more, integer-over, integer-under, integer-zero, sign-is}
 use Rattle.text.proofs.Laws.Moves.Numbers.{sign-not}
-use Rattle.text.proofs.Laws.Moves.Owing.{same-move}
 use Rattle.text.proofs.Laws.Taking.Items.{from-end, Took, alive-takes, alive-passes, alive-skips, alive-refuses}
-use Rattle.text.proofs.Laws.Taking.Items.{took-none, here}
+use Rattle.text.proofs.Laws.Taking.Items.{alive-alike, took-none, here, took-cons, took-two}
 
 digits-step : {s : List ℕ} {i : ℕ} (ys : List Item) → Alive s (M.digits ∷ ys) i
     → ((j : ℕ) → i < j → j ≤ length s → Alive s (M.digits ∷ ys) j → Took Digits s ys j) → Took Digits s ys i
@@ -35,16 +33,9 @@ digits-step {s} {i} ys v on = by (decLt i (length s)) (decLt (getD s i 0) 48) (d
     by (yes h) (yes d) e = none (alive-passes M.digits ys v h (digits-under (getD s i 0) d))
     by (yes h) (no d) (no e) = none (alive-passes M.digits ys v h (digits-over (getD s i 0) (omega arith)))
     by (yes h) (no d) (yes e) =
-        let r =
-        on (i + 1) (omega arith) (omega arith)
-        (alive-takes M.digits ys v (M.digits ∷ []) h (digits-is (getD s i 0) (omega arith) e)) in
-        record {
-          word = getD s i 0 ∷ r .word;
-          stop = r .stop;
-          spelt = spelt-cons (here s i h) (r .spelt);
-          good = digit {d = getD s i 0} (record { low = omega arith; high = omega arith }) (r .good);
-          next = r .next;
-        }
+        let a = alive-takes M.digits ys v (M.digits ∷ []) h (digits-is (getD s i 0) (omega arith) e) in
+        let r = on (i + 1) (omega arith) (omega arith) a in
+        took-cons (here s i h) r (digit {d = getD s i 0} (record { low = omega arith; high = omega arith }) (r .good))
 
 took-digits : {s : List ℕ} {i : ℕ} (ys : List Item) → Alive s (M.digits ∷ ys) i → Took Digits s ys i
 took-digits {s} {i} ys v =
@@ -60,13 +51,7 @@ took-digits₁ {s} {i} ys v =
     by h (no d) (no e) = absurd (alive-refuses M.digit (M.digits ∷ ys) v h (digit-over (getD s i 0) (omega arith)))
     by h (no d) (yes e) =
         let r = took-digits ys (alive-takes M.digit (M.digits ∷ ys) v [] h (digit-is (getD s i 0) (omega arith) e)) in
-        record {
-          word = getD s i 0 ∷ r .word;
-          stop = r .stop;
-          spelt = spelt-cons (here s i h) (r .spelt);
-          good = digits {d = getD s i 0} (record { low = omega arith; high = omega arith }) (r .good);
-          next = r .next;
-        }
+        took-cons (here s i h) r (digits {d = getD s i 0} (record { low = omega arith; high = omega arith }) (r .good))
 
 took-sign : {s : List ℕ} {i : ℕ} (ys : List Item) → Alive s (sign ∷ ys) i → Took Sign s ys i
 unfolding optional
@@ -97,17 +82,10 @@ took-exp {s} {i} ys v = by (decLt i (length s)) (ℕ-discrete (getD s i 0) 69) (
     some : (b : ℕ) → i < length s → getD s i 0 ≡ b → OneOf (69 ∷ 101 ∷ []) (getD s i 0)
         → ((w ds : List ℕ) → Sign w → Digits₁ ds → Exp (b ∷ (w ++ ds))) → Took Exp s ys i
     some b h e o make =
-        let p =
-        took-sign (M.digit ∷ M.digits ∷ ys)
-        (alive-takes exponent ys v (sign ∷ M.digit ∷ M.digits ∷ []) h (exponent-is (getD s i 0) o)) in
+        let a = alive-takes exponent ys v (sign ∷ M.digit ∷ M.digits ∷ []) h (exponent-is (getD s i 0) o) in
+        let p = took-sign (M.digit ∷ M.digits ∷ ys) a in
         let q = took-digits₁ ys (p .next) in
-        record {
-          word = b ∷ (p .word ++ q .word);
-          stop = q .stop;
-          spelt = spelt-cons (record { inside = h; is = e }) (spelt-append (p .spelt) (q .spelt));
-          good = make (p .word) (q .word) (p .good) (q .good);
-          next = q .next;
-        }
+        took-two (record { inside = h; is = e }) p q (make (p .word) (q .word) (p .good) (q .good))
 
     by : Dec (i < length s) → Dec (getD s i 0 ≡ 69) → Dec (getD s i 0 ≡ 101) → Took Exp s ys i
     by (no h) d e = took-none exponent ys v no-exp (alive-skips exponent ys v h refl)
@@ -124,39 +102,23 @@ record Ending (w : List ℕ) : Type 0 where
   frac-is : Frac f
   exp-is : Exp x
 
+ending : {f x : List ℕ} → Frac f → Exp x → Ending (f ++ x)
+ending {f} {x} p q = record { f = f; x = x; is = refl; frac-is = p; exp-is = q }
+
 took-ending : {s : List ℕ} {i : ℕ} (ys : List Item) → Alive s (fraction ∷ ys) i → Took Ending s ys i
 unfolding optional
 took-ending {s} {i} ys v = by (decLt i (length s)) (ℕ-discrete (getD s i 0) 46)
   where
     by : Dec (i < length s) → Dec (getD s i 0 ≡ 46) → Took Ending s ys i
-    by (no h) d =
-        took-none fraction ys v (record { f = []; x = []; is = refl; frac-is = no-frac; exp-is = no-exp })
-        (alive-skips fraction ys v h refl)
+    by (no h) d = took-none fraction ys v (ending no-frac no-exp) (alive-skips fraction ys v h refl)
     by (yes h) (no d) =
-        let r =
-        took-exp ys
-        (alive-seq v
-        (alike (fraction ∷ ys) (exponent ∷ ys) h
-        (λ k. same-move (getD s i 0) fraction exponent (fraction-not (getD s i 0) d) (ys ++ k)))) in
-        record {
-          word = r .word;
-          stop = r .stop;
-          spelt = r .spelt;
-          good = record { f = []; x = r .word; is = refl; frac-is = no-frac; exp-is = r .good };
-          next = r .next;
-        }
+        let r = took-exp ys (alive-alike fraction ys v exponent h (fraction-not (getD s i 0) d)) in
+        record { word = r .word; stop = r .stop; spelt = r .spelt; good = ending no-frac (r .good); next = r .next }
     by (yes h) (yes d) =
-        let p =
-        took-digits₁ (exponent ∷ ys)
-        (alive-takes fraction ys v (M.digit ∷ M.digits ∷ exponent ∷ []) h (fraction-is (getD s i 0) d)) in
+        let a = alive-takes fraction ys v (M.digit ∷ M.digits ∷ exponent ∷ []) h (fraction-is (getD s i 0) d) in
+        let p = took-digits₁ (exponent ∷ ys) a in
         let q = took-exp ys (p .next) in
-        record {
-          word = 46 ∷ (p .word ++ q .word);
-          stop = q .stop;
-          spelt = spelt-cons (record { inside = h; is = d }) (spelt-append (p .spelt) (q .spelt));
-          good = record { f = 46 ∷ p .word; x = q .word; is = refl; frac-is = frac (p .good); exp-is = q .good };
-          next = q .next;
-        }
+        took-two (record { inside = h; is = d }) p q (ending (frac (p .good)) (q .good))
 
 -- an integer and its ending
 pub record Plain (w : List ℕ) : Type 0 where
@@ -188,28 +150,15 @@ took-plain {s} {i} ys v =
     by : i < length s → Dec (getD s i 0 ≡ 48) → Dec (getD s i 0 < 48) → Dec (getD s i 0 < 58) → Took Plain s ys i
     by h (yes d) e f =
         let r = took-ending ys (alive-takes integer ys v (fraction ∷ []) h (integer-zero (getD s i 0) d)) in
-        record {
-          word = 48 ∷ r .word;
-          stop = r .stop;
-          spelt = spelt-cons (record { inside = h; is = d }) (r .spelt);
-          good = plain-of (48 ∷ []) (r .word) zero (r .good);
-          next = r .next;
-        }
+        took-cons (record { inside = h; is = d }) r (plain-of (48 ∷ []) (r .word) zero (r .good))
     by h (no d) (yes e) f = absurd (alive-refuses integer ys v h (integer-under (getD s i 0) e))
     by h (no d) (no e) (no f) = absurd (alive-refuses integer ys v h (integer-over (getD s i 0) (omega arith)))
     by h (no d) (no e) (yes f) =
-        let p =
-        took-digits (fraction ∷ ys)
-        (alive-takes integer ys v (M.digits ∷ fraction ∷ []) h (integer-more (getD s i 0) d (omega arith) f)) in
+        let a = alive-takes integer ys v (M.digits ∷ fraction ∷ []) h (integer-more (getD s i 0) d (omega arith) f) in
+        let p = took-digits (fraction ∷ ys) a in
         let q = took-ending ys (p .next) in
-        record {
-          word = (getD s i 0 ∷ p .word) ++ q .word;
-          stop = q .stop;
-          spelt = spelt-append (spelt-cons (here s i h) (p .spelt)) (q .spelt);
-          good = plain-of (getD s i 0 ∷ p .word) (q .word)
-              (from-1-9 {d = getD s i 0} (record { low = omega arith; high = omega arith }) (p .good)) (q .good);
-          next = q .next;
-        }
+        let n = from-1-9 {d = getD s i 0} (record { low = omega arith; high = omega arith }) (p .good) in
+        took-two (here s i h) p q (plain-of (getD s i 0 ∷ p .word) (q .word) n (q .good))
 
 -- a number has a byte at least
 pub plain-later : {s w : List ℕ} {i e : ℕ} → Plain w → Spelt s w i e → i < e

@@ -52,9 +52,8 @@ module _ {s : List ℕ} {i : ℕ} (ys : List Item) (h : i < length s) (v : Alive
     took-four : (lo hi : ℕ) → high (getD s i 0) ≡ sequence lo hi 2
         → ((b c d : ℕ) → In lo hi b → Tail c → Tail d → AChar (getD s i 0 ∷ b ∷ c ∷ d ∷ [])) → Took AChar s ys i
     took-four lo hi e make =
-        let p =
-        alive-range lo hi (range 128 191 ∷ range 128 191 ∷ ys)
-        (began (range lo hi ∷ range 128 191 ∷ range 128 191 ∷ []) e) in
+        let a = began (range lo hi ∷ range 128 191 ∷ range 128 191 ∷ []) e in
+        let p = alive-range lo hi (range 128 191 ∷ range 128 191 ∷ ys) a in
         let q = alive-range 128 191 (range 128 191 ∷ ys) (p .next) in
         let r = alive-range 128 191 ys (q .next) in
         record {

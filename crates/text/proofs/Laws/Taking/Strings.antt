@@ -8,7 +8,7 @@ use lib.ListN.{length, getD}
 use Rattle.text.specs.Base.{At}
 use Rattle.text.specs.Utf8.{Sequence, ascii, c2-df, e0, e1-ec, ed, ee-ef, f0, f1-f3, f4}
 use Rattle.text.specs.Strings.{Unit, plain, Char, unescaped, escaped, hexed, Body, end, more}
-use Rattle.text.specs.Json.{Spelt}
+use Rattle.text.specs.Json.{Spelt, Quoted}
 use Rattle.text.specs.Machine.{Item, text, char, escape, optional}
 use Rattle.text.proofs.Laws.Reading.{alike}
 use Rattle.text.proofs.Laws.Places.{Alive, alive-seq, alive-inside}
@@ -98,9 +98,8 @@ text-step {s} {i} ys v on = by (alive-inside text ys refl v) (ℕ-discrete (getD
           next = alive-takes text ys v [] h (text-quote (getD s i 0) e);
         }
     by h (no n) =
-        let c =
-        took-char (text ∷ ys) n
-        (alive-seq v (alike (text ∷ ys) (char ∷ text ∷ ys) h (λ k. text-one (getD s i 0) n (ys ++ k)))) in
+        let a = alike (text ∷ ys) (char ∷ text ∷ ys) h (λ k. text-one (getD s i 0) n (ys ++ k)) in
+        let c = took-char (text ∷ ys) n (alive-seq v a) in
         let r = on (c .stop) (char-later (c .good) (c .spelt)) (c .spelt .inside) (c .next) in
         record {
           word = c .word ++ r .word;
@@ -115,3 +114,17 @@ text-step {s} {i} ys v on = by (alive-inside text ys refl v) (ℕ-discrete (getD
 pub alive-text : {s : List ℕ} {i : ℕ} (ys : List Item) → Alive s (text ∷ ys) i → Closed s ys i
 alive-text {s} {i} ys v =
     from-end s (λ j. Alive s (text ∷ ys) j → Closed s ys j) (λ j h on w. text-step ys w on) i (v .high) v
+
+-- with its opening quote
+pub closed-quoted : {s : List ℕ} {ys : List Item} {i : ℕ} → At s i 34 → (r : Closed s ys (i + 1))
+    → Quoted s (r .word) i (r .close + 1)
+closed-quoted o r =
+    record {
+      opens = o;
+      close = r .close;
+      units = r .units;
+      spelt = r .spelt;
+      body = r .body;
+      closes = r .closes;
+      past = refl;
+    }
