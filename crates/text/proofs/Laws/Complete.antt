@@ -66,8 +66,8 @@ body-done {s} {w} {i} {e} p =
     let z = p .past in
     let there : i + 1 + length w + 1 ≡ e = omega arith in
     let past : suc q ≡ e = omega arith in
-    let ahead : drop q s ≡ 34 ∷ drop (suc q) s = drop-cons s q 0 h ∙ ap (λ (x : ℕ). x ∷ drop (suc q) s) (p .closes .is) in
-    let all : drop (i + 1) s ≡ w ++ (34 ∷ drop (suc q) s) = spelt-drop (p .spelt) ∙ ap (λ (x : List ℕ). w ++ x) ahead in
+    let quote : drop q s ≡ 34 ∷ drop (suc q) s = drop-cons s q 0 h ∙ rw (p .closes .is) in
+    let all : drop (i + 1) s ≡ w ++ (34 ∷ drop (suc q) s) = spelt-drop (p .spelt) ∙ ap (λ (x : List ℕ). w ++ x) quote in
     record {
       low = omega (arith, p .spelt .order);
       high = omega arith;

@@ -16,6 +16,9 @@ pub mod Found
 here-none : (e n : ℕ) → Here e n ≡ None → ⊥
 here-none e n q = let z : _≡_ {A = ℕ} 0 1 = cc in omega arith
 
+here-same : {e f n m : ℕ} → Here e n ≡ Here f m → (e ≡ f) × (n ≡ m)
+here-same q = (cc, cc)
+
 line-begins : (s : List ℕ) (i : ℕ) → i < length s → lineAt s i ≡ None → ⊥
 line-begins s i h q = by (decLt (i + unbroken (drop i s)) (length s))
   where
@@ -77,8 +80,8 @@ line-here s i e n ls q r = by (decLt i (length s))
     broken : (v t : List ℕ) → drop i s ≡ v ++ (10 ∷ t) → Unbroken v → e ≡ i + length v → n ≡ i + length v + 1
         → Lines (drop i s) (part s i e ∷ ls)
     broken v t z u a b =
-        let tail : Lines t ls =
-        subst (λ (x : List ℕ). Lines x ls) (ap (λ (k : ℕ). drop k s) b ∙ line-next s i v t z) r in
+        let next : drop n s ≡ t = ap (λ (k : ℕ). drop k s) b ∙ line-next s i v t z in
+        let tail : Lines t ls = subst (λ (x : List ℕ). Lines x ls) next r in
         let w : v ≡ part s i e = sym (ap (part s i) a ∙ line-part s i v t z) in
         subst (λ (x : List ℕ). Lines x (part s i e ∷ ls)) (sym z)
         (subst (λ (x : List ℕ). Lines (v ++ (10 ∷ t)) (x ∷ ls)) w (line u tail))
@@ -86,17 +89,11 @@ line-here s i e n ls q r = by (decLt i (length s))
     cases : i < length s → Cut (drop i s) → Lines (drop i s) (part s i e ∷ ls)
     cases h (all u z) =
         let l = length-drop i s in
-        let p : Here (i + unbroken (drop i s)) (i + unbroken (drop i s)) ≡ Here e n =
-        line-last s i _ h refl (omega arith) ∙ q in
-        let a : i + unbroken (drop i s) ≡ e = cc in
-        let b : i + unbroken (drop i s) ≡ n = cc in
+        let p = here-same (line-last s i (i + unbroken (drop i s)) h refl (omega arith) ∙ q) in
         ended h (omega arith) (omega arith) u
     cases h (before v t y u z) =
         let g = line-inside s i v t y in
-        let p : Here (i + unbroken (drop i s)) (i + unbroken (drop i s) + 1) ≡ Here e n =
-        line-lf s i _ h refl (omega arith) ∙ q in
-        let a : i + unbroken (drop i s) ≡ e = cc in
-        let b : i + unbroken (drop i s) + 1 ≡ n = cc in
+        let p = here-same (line-lf s i (i + unbroken (drop i s)) h refl (omega arith) ∙ q) in
         broken v t y u (omega arith) (omega arith)
 
     by : Dec (i < length s) → Lines (drop i s) (part s i e ∷ ls)
@@ -151,15 +148,10 @@ line-ahead s i e n q = by (decLt i (length s)) (decLt (i + unbroken (drop i s)) 
     by : Dec (i < length s) → Dec (i + unbroken (drop i s) < length s) → Ahead s i e n
     by (no h) d = absurd (here-none e n (sym q ∙ sym (line-over s i (omega arith))))
     by (yes h) (yes g) =
-        let p : Here (i + unbroken (drop i s)) (i + unbroken (drop i s) + 1) ≡ Here e n = line-lf s i _ h refl g ∙ q in
-        let a : i + unbroken (drop i s) ≡ e = cc in
-        let b : i + unbroken (drop i s) + 1 ≡ n = cc in
+        let p = here-same (line-lf s i (i + unbroken (drop i s)) h refl g ∙ q) in
         record { order = omega arith; inside = omega arith; next = omega arith; later = omega arith }
     by (yes h) (no g) =
-        let p : Here (i + unbroken (drop i s)) (i + unbroken (drop i s)) ≡ Here e n =
-        line-last s i _ h refl (omega arith) ∙ q in
-        let a : i + unbroken (drop i s) ≡ e = cc in
-        let b : i + unbroken (drop i s) ≡ n = cc in
+        let p = here-same (line-last s i (i + unbroken (drop i s)) h refl (omega arith) ∙ q) in
         let u = unbroken-within (drop i s) in
         let l = length-drop i s in
         record { order = omega arith; inside = omega arith; next = omega arith; later = omega arith }

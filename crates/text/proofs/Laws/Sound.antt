@@ -51,7 +51,8 @@ begins b = by (ℕ-discrete b 34) (ℕ-discrete b 45) (decLt b 48) (decLt b 58)
     other p q r (no n1) (no n2) (no n3) (no n4) (no n5) = nothing (λ n. value-none b n p q r n1 n2 n3 n4 n5)
 
     else : (b ≡ 34 → ⊥) → (b ≡ 45 → ⊥) → b < 48 ⊎ 57 < b → Begins b
-    else p q r = other p q r (ℕ-discrete b 91) (ℕ-discrete b 102) (ℕ-discrete b 110) (ℕ-discrete b 116) (ℕ-discrete b 123)
+    else p q r =
+        other p q r (ℕ-discrete b 91) (ℕ-discrete b 102) (ℕ-discrete b 110) (ℕ-discrete b 116) (ℕ-discrete b 123)
 
     by : Dec (b ≡ 34) → Dec (b ≡ 45) → Dec (b < 48) → Dec (b < 58) → Begins b
     by (yes e) d2 d3 d4 = quote e

@@ -1,5 +1,5 @@
--- The first inner value takes one of the levels left, so `left` falls at each call; the loop's place is always that of an
--- inner value owed.
+-- The first inner value takes one of the levels left, so `left` falls at each call; the loop's place is always that
+-- of an inner value owed.
 use mathlib.Core.List.{[], _∷_}
 use Prim.Native.Nat.{ℕ, _-_, _<_}
 use native.Mathlib.Omega.{arith}
@@ -83,29 +83,22 @@ enum-known-q t c = search needs
 loop-less : (t : ℕ) → value-lts.Need-loop-less (calls t) (value-at t) value.Post Inv-loop μ-loop
 loop-less t c =
     let turn = c .before .before .before .before .before .before .before .before in
-    let args = turn .before .before .before .before .before .before .args in
-    let loop = turn .loop in
-    let after-value = c .before .before .before .before .before .before .before .value .ensures in
-    let r-is = c .before .before .before .before .before .r .given .1 in
+    let left = turn .before .before .before .before .before .before .args .left in
+    let read = c .before .before .before .before .before .before .before .value .ensures in
     let after-follow = c .before .before .before .follow .ensures in
-    omega (
-      arith,
-      inner-later (loop .inv) (past (valued (args .left - 1) ∷ []) _ _ r-is after-value) _ after-follow _
-          (c .before .q .given .1),
-      inner-more (loop .inv) (past (valued (args .left - 1) ∷ []) _ _ r-is after-value) _ after-follow _
-          (c .before .q .given .1) .leads .high,
-    )
+    let inner = past (valued (left - 1) ∷ []) _ _ (c .before .before .before .before .before .r .given .1) read in
+    let q-is = c .before .q .given .1 in
+    let later = inner-later (turn .loop .inv) inner _ after-follow _ q-is in
+    omega (arith, later, inner-more (turn .loop .inv) inner _ after-follow _ q-is .leads .high)
 
 loop-again : (t : ℕ) → value-lts.Need-loop-again (calls t) (value-at t) value.Post Inv-loop μ-loop
 loop-again t c =
     let turn = c .before .before .before .before .before .before .before .before in
-    let args = turn .before .before .before .before .before .before .args in
-    let loop = turn .loop in
-    let after-value = c .before .before .before .before .before .before .before .value .ensures in
-    let r-is = c .before .before .before .before .before .r .given .1 in
+    let left = turn .before .before .before .before .before .before .args .left in
+    let read = c .before .before .before .before .before .before .before .value .ensures in
     let after-follow = c .before .before .before .follow .ensures in
-    inner-more (loop .inv) (past (valued (args .left - 1) ∷ []) _ _ r-is after-value) _ after-follow _
-    (c .before .q .given .1)
+    let inner = past (valued (left - 1) ∷ []) _ _ (c .before .before .before .before .before .r .given .1) read in
+    inner-more (turn .loop .inv) inner _ after-follow _ (c .before .q .given .1)
 
 enum-known-q-2 : (t : ℕ) → value-lts.Need-enum-known-q-2 (calls t) (value-at t) value.Post Inv-loop μ-loop
 enum-known-q-2 t c = search needs
@@ -113,13 +106,11 @@ enum-known-q-2 t c = search needs
 returns-2 : (t : ℕ) → value-lts.Need-returns-2 (calls t) (value-at t) value.Post Inv-loop μ-loop
 returns-2 t c =
     let turn = c .before .before .before .before .before .before .before .before in
-    let args = turn .before .before .before .before .before .before .args in
-    let loop = turn .loop in
-    let after-value = c .before .before .before .before .before .before .before .value .ensures in
-    let r-is = c .before .before .before .before .before .r .given .1 in
+    let left = turn .before .before .before .before .before .before .args .left in
+    let read = c .before .before .before .before .before .before .before .value .ensures in
     let after-follow = c .before .before .before .follow .ensures in
-    inner-closed (loop .inv) (past (valued (args .left - 1) ∷ []) _ _ r-is after-value) _ after-follow _
-    (c .before .q2 .given .1)
+    let inner = past (valued (left - 1) ∷ []) _ _ (c .before .before .before .before .before .r .given .1) read in
+    inner-closed (turn .loop .inv) inner _ after-follow _ (c .before .q2 .given .1)
 
 enum-known-q-3 : (t : ℕ) → value-lts.Need-enum-known-q-3 (calls t) (value-at t) value.Post Inv-loop μ-loop
 enum-known-q-3 t c = search needs
@@ -127,13 +118,11 @@ enum-known-q-3 t c = search needs
 returns-3 : (t : ℕ) → value-lts.Need-returns-3 (calls t) (value-at t) value.Post Inv-loop μ-loop
 returns-3 t c =
     let turn = c .before .before .before .before .before .before .before .before in
-    let args = turn .before .before .before .before .before .before .args in
-    let loop = turn .loop in
-    let after-value = c .before .before .before .before .before .before .before .value .ensures in
-    let r-is = c .before .before .before .before .before .r .given .1 in
+    let left = turn .before .before .before .before .before .before .args .left in
+    let read = c .before .before .before .before .before .before .before .value .ensures in
     let after-follow = c .before .before .before .follow .ensures in
-    inner-stops (loop .inv) (past (valued (args .left - 1) ∷ []) _ _ r-is after-value) _ after-follow _
-    (c .before .q3 .given .1)
+    let inner = past (valued (left - 1) ∷ []) _ _ (c .before .before .before .before .before .r .given .1) read in
+    inner-stops (turn .loop .inv) inner _ after-follow _ (c .before .q3 .given .1)
 
 returns-4 : (t : ℕ) → value-lts.Need-returns-4 (calls t) (value-at t) value.Post Inv-loop μ-loop
 returns-4 t c = ended _ _ _ _ _ (c .before .b .given .1) (c .before .before .before .begin .ensures)

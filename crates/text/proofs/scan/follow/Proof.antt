@@ -50,23 +50,21 @@ enum-known-r-2 c = search needs
 
 returns-4 : tie.Need-returns-4
 returns-4 c =
-    let after-space =
-    c .before .before .before .before .before .before .before .before .before .before .space .ensures in
-    let if1 = c .before .before .before .before .before .before .before .before .before .if1 in
-    let if3 = c .before .before .before .before .before .if3 in
+    let comma = c .before .before .before .before .before .if3 in
+    let read = c .before .before .before .before .before .before .before .before .before in
+    let after-space = read .before .space .ensures in
     let after-space2 = c .before .before .before .before .space2 .ensures in
     let after-heading = c .before .before .before .heading .ensures in
-    follow-inner after-space (if1 .left) (if3 .left) after-space2 _ after-heading _ (c .before .r .given .1)
+    follow-inner after-space (read .if1 .left) (comma .left) after-space2 _ after-heading _ (c .before .r .given .1)
 
 returns-5 : tie.Need-returns-5
 returns-5 c =
-    let after-space =
-    c .before .before .before .before .before .before .before .before .before .before .space .ensures in
-    let if1 = c .before .before .before .before .before .before .before .before .before .if1 in
-    let if3 = c .before .before .before .before .before .if3 in
+    let comma = c .before .before .before .before .before .if3 in
+    let read = c .before .before .before .before .before .before .before .before .before in
+    let after-space = read .before .space .ensures in
     let after-space2 = c .before .before .before .before .space2 .ensures in
     let after-heading = c .before .before .before .heading .ensures in
-    follow-fails after-space (if1 .left) (if3 .left) after-space2 _ after-heading _ (c .before .r2 .given .1)
+    follow-fails after-space (read .if1 .left) (comma .left) after-space2 _ after-heading _ (c .before .r2 .given .1)
 
 pub follow-spec : {M : Type 1} → statement M
 follow-spec =

@@ -26,19 +26,15 @@ add-space : tie.Need-add-space
 add-space c =
     let pre = c .before .before .before .before .before .before .pre in
     let after-string = c .before .before .before .before .string .ensures in
-    let h =
-    entry-headed (pre .is) (past (text ∷ []) _ _ (c .before .before .r .given .1) after-string) .colon _
-    (c .space .ensures) .inside in
-    omega arith
+    let name = past (text ∷ []) _ _ (c .before .before .r .given .1) after-string in
+    let h = entry-headed (pre .is) name .colon _ (c .space .ensures) .inside in omega arith
 
 space-requires-2 : tie.Need-space-requires-2
 space-requires-2 c κs =
     let pre = c .before .before .before .before .before .before .pre in
     let after-string = c .before .before .before .before .string .ensures in
-    let h =
-    entry-headed (pre .is) (past (text ∷ []) _ _ (c .before .before .r .given .1) after-string) .colon _
-    (c .space .ensures) .inside in
-    omega arith
+    let name = past (text ∷ []) _ _ (c .before .before .r .given .1) after-string in
+    let h = entry-headed (pre .is) name .colon _ (c .space .ensures) .inside in omega arith
 
 add-t9 : tie.Need-add-t9
 add-t9 c = let h = entry-inside (c .before .before .before .before .before .before .before .pre .is) in omega arith
@@ -46,8 +42,8 @@ add-t9 c = let h = entry-inside (c .before .before .before .before .before .befo
 sub-t10 : tie.Need-sub-t10
 sub-t10 c =
     let after-string = c .before .before .before .before .before .string .ensures in
-    let r-is = c .before .before .before .r .given .1 in
-    let h = text-grows (past (text ∷ []) _ _ r-is after-string) in omega arith
+    let name = past (text ∷ []) _ _ (c .before .before .before .r .given .1) after-string in
+    let h = text-grows name in omega arith
 
 enum-told : tie.Need-enum-told
 enum-told c = search needs
@@ -55,17 +51,13 @@ enum-told c = search needs
 returns : tie.Need-returns
 returns c =
     let after-string = c .before .before .before .before .before .string .ensures in
-    let r-is = c .before .before .before .r .given .1 in
-    λ ms e p.
-    entry-headed p (past (text ∷ []) _ _ r-is after-string) .leader _ _ (c .before .space .ensures)
-    (c .space2 .ensures)
+    let name = past (text ∷ []) _ _ (c .before .before .before .r .given .1) after-string in
+    λ ms e p. entry-headed p name .leader _ _ (c .before .space .ensures) (c .space2 .ensures)
 
 returns-2 : tie.Need-returns-2
 returns-2 c =
-    λ ms e p.
-    absurd
-    (done-fall (text ∷ []) (entry-done p .is .name-done)
-    (fell (text ∷ []) _ _ (c .enum-told .given .1) (c .before .before .string .ensures)))
+    let fails = fell (text ∷ []) _ _ (c .enum-told .given .1) (c .before .before .string .ensures) in
+    λ ms e p. absurd (done-fall (text ∷ []) (entry-done p .is .name-done) fails)
 
 pub entry-spec : {M : Type 1} → statement M
 entry-spec =
