@@ -1,5 +1,5 @@
 -- What stands at a place, as the walkers find it: the twin tells every place, and a place has one piece.
-use mathlib.Core.Path.{_≡_, refl, ap, _∙_, subst}
+use mathlib.Core.Path.{_≡_, refl, ap, _∙_}
 use mathlib.Core.List.{List, [], _∷_, map}
 use Prim.Native.Nat.{ℕ, _+_, _-_, _≤_, _<_}
 use native.Mathlib.Omega.{arith}
@@ -21,6 +21,9 @@ use Rattle.text.proofs.Laws.Complete.{body-done, reads-done}
 use Rattle.text.proofs.Laws.Starts.{value-starts}
 use Rattle.text.proofs.Laws.Sound.{text-sound}
 use Rattle.text.proofs.Laws.Once.{once, text-unique}
+use Rattle.text.proofs.Laws.Once.Readings.{moved}
+pub use Rattle.text.proofs.Laws.Contents.Turns.{list-turn, rest-turn, object-turn, more-turn}
+pub use Rattle.text.proofs.Laws.Contents.Turns.{turn-inside, turn-closed, turn-open}
 pub mod Entries
 pub mod Kinds
 pub mod Turns
@@ -67,21 +70,12 @@ text-stands s i d x =
     let p = x .says in
     let b = value-starts (p .reads) in
     let z = space-is d (p .before) (b .at) (b .black) in
-    record {
-      reads = subst (λ (n : ℕ). Reads s (a-value (x .tree)) n (p .past)) z (p .reads);
-      ends = ends-after (p .after);
-      shallow = x .shallow;
-    }
+    record { reads = moved (a-value (x .tree)) z (p .reads); ends = ends-after (p .after); shallow = x .shallow }
 
 pub root-is : (s : List ℕ) (i : ℕ) → verdict s ≡ Whole → Done s (ws ∷ []) 0 i → Rooted s i
 root-is s i e d =
     let x = text-sound levels s e in
-    record {
-      stop = x .says .past;
-      stands = λ t p.
-          subst (λ (u : Json). Stands s u i (x .says .past)) (text-unique s (x .tree) t (x .says) p)
-          (text-stands s i d x);
-    }
+    record { stop = x .says .past; stands = λ t p. rw (text-unique s (x .tree) t (x .says) p) at (text-stands s i d x) }
 
 -- ---- the tree as a function: null where the text is not whole
 
@@ -106,7 +100,7 @@ contents-says s e = by-says s (verdict s) refl e
 pub contents-is : (s : List ℕ) (t : Json) → verdict s ≡ Whole → JsonText s t → contents s ≡ t
 contents-is s t e p = text-unique s (contents s) t (contents-says s e) p
 
--- ---- places inside the text, and an earlier place to be past of
+-- ---- places inside the text
 
 pub rest-inside : {s : List ℕ} {ts : Values} {i e : ℕ} → Rest s ts i e → i ≤ length s
 rest-inside p = let d = reads-done levels (p .reads) (p .shallow) tt in omega (arith, d .low, d .high)

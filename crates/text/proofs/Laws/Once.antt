@@ -37,8 +37,8 @@ module _ {s : List ℕ} where
       → Space s (c + 1) v → Starts s v → Once s (a-value t) v j → Once s (more ms) j e
       → Once s (members (named w t ms)) i e
   unfolding move oneOf
-  member-once {q = q} {c = c} {v = v} {w = w} {t = t} {ms = ms} n x o y b on go u f
-      (member {q = q′} {c = c′} {v = v′} {j = j′} {w = w′} {t = t′} {ms = ms′} n′ x′ o′ y′ r p) =
+  member-once {t = t} {ms = ms} n x o y b on go u f
+      (member {c = c′} {v = v′} {j = j′} {w = w′} {t = t′} {ms = ms′} n′ x′ o′ y′ r p) =
       let d = quoted-once n′ n in
       let g = space-once (subst (λ (k : ℕ). Space s k c′) (d .stop) x′) o′ refl x o refl in
       let a = value-starts r in

@@ -16,6 +16,7 @@ use Rattle.text.proofs.Laws.Ends.{ends-more}
 use Rattle.text.proofs.Laws.Spaces.{space-is}
 use Rattle.text.proofs.Laws.Complete.{body-done}
 use Rattle.text.proofs.Laws.Starts.{value-starts, members-start}
+use Rattle.text.proofs.Laws.Once.Readings.{moved}
 
 -- a member's name, colon and value, as the code finds their places
 pub record Headed (s : List ℕ) (ms : Members) (i e q : ℕ) : Type 0 where
@@ -47,11 +48,7 @@ entry-reads {s} {i} {e} h (member {q = q} {c = c} {v = v} {j = j} {t = t} {ms = 
               order = omega (arith, n .spelt .order);
               inside = omega (arith, n .closes .inside);
               stop = j;
-              stands = record {
-                reads = subst (λ (a : ℕ). Reads s (a-value t) a j) u r;
-                ends = ends-more m;
-                shallow = omega arith;
-              };
+              stands = record { reads = moved (a-value t) u r; ends = ends-more m; shallow = omega arith };
               follows = record { reads = m; shallow = omega arith };
               later = omega (arith, d .low, g .low, f .low);
             };

@@ -1,4 +1,4 @@
--- A value's kind is told by its first byte.
+-- A value's kind is told by its first byte, since no two kinds share one.
 use mathlib.Core.Path.{_≡_, sym, ap, _∙_}
 use mathlib.Core.List.{List}
 use Prim.Native.Nat.{ℕ}

@@ -15,6 +15,7 @@ use Rattle.text.specs.Contents.{Stands, Rest, Others, Entry, First}
 use Rattle.text.proofs.Laws.Ends.{ends-rest}
 use Rattle.text.proofs.Laws.Spaces.{space-is}
 use Rattle.text.proofs.Laws.Starts.{elements-start, members-start}
+use Rattle.text.proofs.Laws.Once.Readings.{moved}
 
 -- the first of some elements
 first-of : {s : List ℕ} {i j e : ℕ} {ts : Values} → i < j → depths ts ≤ levels → Reads s (elements ts) j e
@@ -62,7 +63,7 @@ list-reads d h (empty-list o w p) = closes (space-is d w p refl) p
 list-reads {s} {v} {j} {e} {ts} d h (some-list o w r) =
     let b = elements-start r in
     let z = space-is d w (b .at) (b .black) in
-    let r′ = subst (λ (n : ℕ). Reads s (elements ts) n e) z r in
+    let r′ = moved (elements ts) z r in
     let b′ = elements-start r′ in
     inr (λ q. b′ .inner (sym (b′ .at .is) ∙ q), (b′ .at .inside, first-of (let l = d .low in omega arith) h r′))
 
@@ -85,9 +86,7 @@ rest-reads {s} {i} {j} {e} {ts} d h (comma-list {k = l} w o x r) =
       (let y = o′ .is in omega arith),
       (
         o′ .inside,
-        λ k g.
-            first-of (let q = d .low in let u = g .low in omega arith) h
-            (subst (λ (n : ℕ). Reads s (elements ts) n e) (space-is g x′ (b .at) (b .black)) r),
+        λ k g. first-of (omega (arith, d .low, g .low)) h (moved (elements ts) (space-is g x′ (b .at) (b .black)) r),
       ),
     )
 
@@ -103,7 +102,7 @@ unfolding move oneOf
 object-reads d h (empty-object o w p) = closes (space-is d w p refl) p
 object-reads {s} {v} {j} {e} {ms} d h (some-object o w r) =
     let z = space-is d w (members-start r) refl in
-    let r′ = subst (λ (n : ℕ). Reads s (members ms) n e) z r in
+    let r′ = moved (members ms) z r in
     let b = members-start r′ in
     inr ((let y = b .is in omega arith), (b .inside, record { reads = r′; shallow = h }))
 
@@ -124,11 +123,7 @@ more-reads {s} {i} {j} {e} {ms} d h (comma-object {k = l} w o x r) =
       (let y = o′ .is in omega arith),
       (
         o′ .inside,
-        λ k g.
-            record {
-              reads = subst (λ (n : ℕ). Reads s (members ms) n e) (space-is g x′ (members-start r) refl) r;
-              shallow = h;
-            },
+        λ k g. record { reads = moved (members ms) (space-is g x′ (members-start r) refl) r; shallow = h },
       ),
     )
 

@@ -1,4 +1,4 @@
--- Two readings at one place say the same up to the same place.
+-- What it is to read once: two readings at one place say the same, up to the same place.
 use mathlib.Core.Path.{_≡_, sym, _∙_, subst}
 use mathlib.Core.List.{List}
 use Prim.Native.Nat.{ℕ}

@@ -1,4 +1,4 @@
--- A value without inner values is found by its first byte.
+-- A value without inner values is found by its first byte, which tells the items that are owed behind it.
 use mathlib.Core.Path.{_≡_, refl, ap, subst}
 use mathlib.Core.List.{List, [], _∷_, _++_, map}
 use Prim.Native.Nat.{ℕ, _+_, _≤_, _<_}

@@ -1,4 +1,4 @@
--- The tests of Decoding on one byte: ranges, digits and letters.
+-- The tests of Decoding on one byte, for ranges, digits and letters: each picks one row of its definition.
 use mathlib.Core.Path.{_≡_, refl}
 use mathlib.Core.Bool.{Bool, true, false}
 use mathlib.Core.List.{List}

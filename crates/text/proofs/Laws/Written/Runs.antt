@@ -1,4 +1,4 @@
--- What the loops of `fits` and `write_text` keep.
+-- What the loops of `fits` and `write_text` keep: what is written of all is what is written so far and of the rest.
 use mathlib.Core.Path.{_≡_, refl, sym, ap, _∙_}
 use mathlib.Core.Bool.{true, false}
 use mathlib.Core.List.{List, [], _∷_, _++_, append-nil, append-assoc}
