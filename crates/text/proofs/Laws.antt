@@ -1,3 +1,4 @@
+-- Laws of the definitions in specs/: each file rests only on files named before it.
 pub mod Tests
 pub mod Reading
 pub mod Moves
@@ -7,9 +8,11 @@ pub mod Parts
 pub mod Eating
 pub mod Numbers
 pub mod Chars
+pub mod Ends
+pub mod Spaces
+pub mod Starts
 pub mod Complete
 pub mod Taking
-pub mod Quoting
 pub mod Sound
 pub mod Once
 pub mod Live

@@ -1,153 +1,37 @@
--- What the grammar reads the twin passes: by induction on the reading, since what follows a value in a text stops every number.
-use mathlib.Core.Path.{_≡_, refl, sym, ap, _∙_, subst}
-use mathlib.Core.Bool.{Bool, true, false}
+-- What the grammar reads the twin passes, by induction on the reading: what follows a value stops every number.
+use mathlib.Core.Path.{_≡_, refl, sym, ap, _∙_}
 use mathlib.Core.List.{List, [], _∷_, _++_, map}
-use Prim.Native.Nat.{ℕ, zero, suc, _+_, _-_, _≤_, _<_, max}
+use Prim.Native.Nat.{ℕ, zero, suc, _+_, _≤_}
 use native.Mathlib.Omega.{arith}
-use native.Mathlib.Numerals.{sub-one}
-use native.Mathlib.Decide.{decLt}
-use types.Run.{OneOf}
-use mathlib.Core.Logic.{_⊎_, inl, inr, ⊎-elim}
 use lib.ListN.{length, getD, drop}
-use lib.Seq.{drop-cons, drop-length}
-use Rattle.text.specs.Base.{In, At, oneOf}
-use Rattle.text.specs.Json.{Json, Values, Members, no-more, also, no-members, named, null, bool, number, string, list, object, depth, depths, depthm, White, tab, line-feed, carriage-return, space, Space, no-space, white, Int, zero, from-1-9, Number, unsigned, negative, Spelt, Quoted, Piece, a-value, elements, rest, members, more, Reads, a-null, a-true, a-false, a-number, a-string, empty-list, some-list, element, close-list, comma-list, empty-object, some-object, member, close-object, comma-object}
-use Rattle.text.specs.Contents.{Ends, with-text, before}
+use lib.Seq.{drop-cons}
+use Rattle.text.specs.Base.{At, oneOf}
+use Rattle.text.specs.Json.{depth, depths, depthm, Space, zero, Spelt, Quoted, Piece, a-value, elements, rest}
+use Rattle.text.specs.Json.{members, more, Reads, a-null, a-true, a-false, a-number, a-string, empty-list}
+use Rattle.text.specs.Json.{some-list, element, close-list, comma-list, empty-object, some-object, member}
+use Rattle.text.specs.Json.{close-object, comma-object}
+use Rattle.text.specs.Contents.{Ends}
 use Rattle.text.specs.Verdicts.{Text}
-use Rattle.text.specs.declared.scan.Verdict.the-variants.{Whole}
-use Rattle.text.specs.Machine.{Item, Move, pass, go, ws, byte, text, value, first, next, inner, opens, move, optional, from, run, feed, ends, verdictAt}
+use Rattle.text.specs.Machine.{Item, Move, pass, go, ws, byte, text, value, first, next, inner, move, from, run}
+use Rattle.text.specs.Machine.{feed, ends, verdictAt}
 use Rattle.text.specs.Machine as M
-use Rattle.text.specs.Reading.{Leads, Done}
+use Rattle.text.specs.Reading.{Done}
+use Rattle.text.specs.declared.scan.Verdict.the-variants.{Whole}
 use Rattle.text.specs.declared.scan.Shape.{Shape}
 use Rattle.text.specs.declared.scan.Shape.the-variants.{List as a-list, Object as an-object}
-use Rattle.text.proofs.Laws.Reading.{seq, frame, takes, passes, skips, alike, from-empty}
+use Rattle.text.proofs.Laws.Reading.{takes-at, seq, frame, alike, from-empty}
 use Rattle.text.proofs.Laws.Values.{next-goes}
-use Rattle.text.proofs.Laws.Parts.{spelt-drop, spelt-length, spelt-first, spelt-one}
-use Rattle.text.proofs.Laws.Eating.{Eats, Passed, Calm, eats-done, word-eats, run-takes}
+use Rattle.text.proofs.Laws.Parts.{spelt-drop, spelt-length}
+use Rattle.text.proofs.Laws.Eating.{eats-done, word-eats, run-takes}
 use Rattle.text.proofs.Laws.Numbers.{number-eat}
 use Rattle.text.proofs.Laws.Chars.{text-eat}
-use Rattle.text.proofs.Laws.Moves as B
-
--- ---- what stops a number
-
--- where a number ends, the twin's items for more of it are done
-ends-calm : {s : List ℕ} {e : ℕ} → Ends s e → Calm (drop e s)
-unfolding Passed optional
-ends-calm {s} {e} (with-text q) =
-    subst Calm (sym (ap (λ (n : ℕ). drop n s) q ∙ drop-length s)) record { on-digits = refl; on-fraction = refl; on-exponent = refl }
-ends-calm {s} {e} (before {b} p n f u l) =
-    subst Calm (sym (drop-cons s e 0 (p .inside)))
-    record {
-      on-digits = ap (move M.digits) (p .is) ∙ by (decLt b 48);
-      on-fraction = ap (move M.fraction) (p .is) ∙ B.fraction-not b f ∙ B.exponent-not b (⊎-elim u l);
-      on-exponent = ap (move M.exponent) (p .is) ∙ B.exponent-not b (⊎-elim u l);
-    }
-  where
-    by : Dec (b < 48) → move M.digits b ≡ pass
-    by (yes h) = B.digits-under b h
-    by (no h) = B.digits-over b (over (decLt 57 b))
-      where
-        over : Dec (57 < b) → 57 < b
-        over (yes g) = g
-        over (no g) = absurd (n (record { low = omega arith; high = omega arith }))
-
-ends-byte : {s : List ℕ} {e : ℕ} (b : ℕ) → At s e b → (b < 46 ⊎ 101 < b) ⊎ (b ≡ 93) → Ends s e
-ends-byte b p (inl (inl h)) = before p (λ i. let z = i .low in omega arith) (omega arith) (omega arith) (omega arith)
-ends-byte b p (inl (inr h)) = before p (λ i. let z = i .high in omega arith) (omega arith) (omega arith) (omega arith)
-ends-byte b p (inr h) = before p (λ i. let z = i .high in omega arith) (omega arith) (omega arith) (omega arith)
-
-ends-white : {s : List ℕ} {e b : ℕ} → At s e b → White b → Ends s e
-ends-white p tab = ends-byte 9 p (inl (inl (omega arith)))
-ends-white p line-feed = ends-byte 10 p (inl (inl (omega arith)))
-ends-white p carriage-return = ends-byte 13 p (inl (inl (omega arith)))
-ends-white p space = ends-byte 32 p (inl (inl (omega arith)))
-
--- a byte of structure ends a number, with white space before it or without
-ends-space : {s : List ℕ} {i e : ℕ} (b : ℕ) → (b < 46 ⊎ 101 < b) ⊎ (b ≡ 93) → Space s i e → At s e b → Ends s i
-ends-space b h (no-space g) p = ends-byte b p h
-ends-space b h (white q v r) p = ends-white q v
-
-pub ends-rest : {s : List ℕ} {i e : ℕ} {ts : Values} → Reads s (rest ts) i e → Ends s i
-ends-rest (close-list w o) = ends-space 93 (inr refl) w o
-ends-rest (comma-list w o x r) = ends-space 44 (inl (inl (omega arith))) w o
-
-pub ends-more : {s : List ℕ} {i e : ℕ} {ms : Members} → Reads s (more ms) i e → Ends s i
-ends-more (close-object w o) = ends-space 125 (inl (inr (omega arith))) w o
-ends-more (comma-object w o x r) = ends-space 44 (inl (inl (omega arith))) w o
-
-pub ends-after : {s : List ℕ} {i : ℕ} → Space s i (length s) → Ends s i
-ends-after (no-space h) = with-text refl
-ends-after (white p v r) = ends-white p v
-
--- ---- white space
-
-pub white-moves : {b : ℕ} → White b → move ws b ≡ go (ws ∷ [])
-unfolding move oneOf
-white-moves tab = refl
-white-moves line-feed = refl
-white-moves carriage-return = refl
-white-moves space = refl
-
--- all of it, before a byte that is none
-pub space-done : {s : List ℕ} {i e b : ℕ} → Space s i e → At s e b → move ws b ≡ pass → Done s (ws ∷ []) i e
-space-done (no-space h) p m = passes ws [] (p .inside) (ap (move ws) (p .is) ∙ m)
-space-done {s} {i} (white q v r) p m =
-    seq (takes ws [] (ws ∷ []) (q .inside) (ap (move ws) (q .is) ∙ white-moves v)) (space-done r p m)
-
--- all of it, to the end of the text
-pub space-end : {s : List ℕ} {i : ℕ} → Space s i (length s) → Done s (ws ∷ []) i (length s)
-unfolding optional
-space-end (no-space h) = skips ws [] refl refl
-space-end {s} {i} (white q v r) =
-    seq (takes ws [] (ws ∷ []) (q .inside) (ap (move ws) (q .is) ∙ white-moves v)) (space-end r)
-
-pub space-low : {s : List ℕ} {i e : ℕ} → Space s i e → i ≤ e
-space-low (no-space h) = omega arith
-space-low (white p v r) = let z = space-low r in omega arith
-
--- ---- the first byte of a value
-
-pub record Starts (s : List ℕ) (i : ℕ) : Type 0 where
-  pub first : ℕ
-  pub at : At s i first
-  pub black : move ws first ≡ pass
-  pub inner : first ≡ 93 → ⊥
-
-starts : {s : List ℕ} {i : ℕ} (b : ℕ) → At s i b → move ws b ≡ pass → (b ≡ 93 → ⊥) → Starts s i
-starts b p m h = record { first = b; at = p; black = m; inner = h }
-
-digit-black : (d : ℕ) → 48 ≤ d → d ≤ 57 → move ws d ≡ pass
-digit-black d l u = B.ws-over d (omega arith) (λ o. no-key o)
-  where
-    no-key : OneOf (13 ∷ 32 ∷ []) d → ⊥
-    no-key o = ⊎-elim (λ e. omega arith) (λ e. omega arith) o
-
-number-starts : {s w : List ℕ} {i e : ℕ} → Number w → Spelt s w i e → Starts s i
-unfolding move oneOf
-number-starts (unsigned zero f x) p = starts 48 (spelt-first p) refl (omega arith)
-number-starts (unsigned (from-1-9 {d} h t) f x) p =
-    let l = h .low in let u = h .high in starts d (spelt-first p) (digit-black d (omega arith) u) (omega arith)
-number-starts (negative i f x) p = starts 45 (spelt-first p) refl (omega arith)
-
-pub value-starts : {s : List ℕ} {i e : ℕ} {t : Json} → Reads s (a-value t) i e → Starts s i
-unfolding move oneOf
-value-starts (a-null p) = starts 110 (spelt-first p) refl (omega arith)
-value-starts (a-true p) = starts 116 (spelt-first p) refl (omega arith)
-value-starts (a-false p) = starts 102 (spelt-first p) refl (omega arith)
-value-starts (a-number p n) = number-starts n p
-value-starts (a-string p) = starts 34 (p .opens) refl (omega arith)
-value-starts (empty-list o w c) = starts 91 o refl (omega arith)
-value-starts (some-list o w r) = starts 91 o refl (omega arith)
-value-starts (empty-object o w c) = starts 123 o refl (omega arith)
-value-starts (some-object o w r) = starts 123 o refl (omega arith)
-
-pub elements-start : {s : List ℕ} {i e : ℕ} {ts : Values} → Reads s (elements ts) i e → Starts s i
-elements-start (element v r) = value-starts v
-
-pub members-start : {s : List ℕ} {i e : ℕ} {ms : Members} → Reads s (members ms) i e → At s i 34
-members-start (member q w o x v r) = q .opens
-
--- ---- readings are passed
+use Rattle.text.proofs.Laws.Moves.Bytes.{byte-is}
+use Rattle.text.proofs.Laws.Moves.Values.{first-close, next-close, value-false, value-null, value-opens}
+use Rattle.text.proofs.Laws.Moves.Values.{value-text, value-true}
+use Rattle.text.proofs.Laws.Moves.Owing.{first-enters}
+use Rattle.text.proofs.Laws.Ends.{ends-calm, ends-rest, ends-more, ends-after}
+use Rattle.text.proofs.Laws.Spaces.{space-done, space-end}
+use Rattle.text.proofs.Laws.Starts.{Starts, value-starts, elements-start, members-start}
 
 -- the items that read a piece, and how deep it goes
 abbrev pub owed : ℕ → Piece → List Item
@@ -182,48 +66,56 @@ body-done {s} {w} {i} {e} p =
     let z = p .past in
     let there : i + 1 + length w + 1 ≡ e = omega arith in
     let past : suc q ≡ e = omega arith in
+    let quote : drop q s ≡ 34 ∷ drop (suc q) s = drop-cons s q 0 h ∙ rw (p .closes .is) in
+    let all : drop (i + 1) s ≡ w ++ (34 ∷ drop (suc q) s) = spelt-drop (p .spelt) ∙ ap (λ (x : List ℕ). w ++ x) quote in
     record {
       low = omega (arith, p .spelt .order);
       high = omega arith;
-      goes = λ k. ap (λ (x : List ℕ). run (text ∷ k) x (i + 1)) (spelt-drop (p .spelt) ∙ ap (λ (x : List ℕ). w ++ x) (drop-cons s q 0 h ∙ ap (λ (x : ℕ). x ∷ drop (suc q) s) (p .closes .is)))
+      goes = λ k. ap (λ (x : List ℕ). run (text ∷ k) x (i + 1)) all
           ∙ text-eat (p .body) k (drop (suc q) s) (i + 1)
           ∙ ap (run k (drop (suc q) s)) there
           ∙ ap (λ (n : ℕ). run k (drop n s) e) past;
     }
 
 pub quoted-done : {s w : List ℕ} {i e : ℕ} → Quoted s w i e → Done s (byte 34 ∷ text ∷ []) i e
-quoted-done {s} {w} {i} p =
-    seq (takes (byte 34) (text ∷ []) [] (p .opens .inside) (B.byte-is (getD s i 0) 34 (p .opens .is))) (body-done p)
+quoted-done p = seq (takes-at (byte 34) (text ∷ []) (p .opens) [] (byte-is 34 34 refl)) (body-done p)
 
 module _ {s : List ℕ} where
-  eat-byte : {i b : ℕ} (x : Item) (xs ys : List Item) → At s i b → move x b ≡ go xs → Leads s (x ∷ ys) i (xs ++ ys) (i + 1)
-  eat-byte {i} {b} x xs ys p e = takes x ys xs (p .inside) (ap (move x) (p .is) ∙ e)
-
-  word-done : {i e : ℕ} (n b : ℕ) (w : List ℕ) → Spelt s (b ∷ w) i e → move (value n) b ≡ go (map byte w) → Done s (value n ∷ []) i e
+  word-done : {i e : ℕ} (n b : ℕ) (w : List ℕ) → Spelt s (b ∷ w) i e → move (value n) b ≡ go (map byte w)
+      → Done s (value n ∷ []) i e
   word-done {i} {e} n b w p m =
       eats-done (value n ∷ []) p
-      (λ k at. run-takes (value n) k (w ++ drop e s) at b (map byte w) m ∙ word-eats w (drop e s) k (at + 1) ∙ ap (run k (drop e s)) (omega arith))
+      (λ k at.
+      run-takes (value n) k (w ++ drop e s) at b (map byte w) m
+      ∙ word-eats w (drop e s) k (at + 1)
+      ∙ ap (run k (drop e s)) (omega arith))
 
   -- an opening byte, white space, and what stands behind it
-  open-done : {i j e : ℕ} (sh : Shape) (n b : ℕ) → At s i (M.opener sh) → Space s (i + 1) j → At s j b → move ws b ≡ pass → Done s (first sh n ∷ []) j e → Done s (value (suc n) ∷ []) i e
+  open-done : {i j e : ℕ} (sh : Shape) (n b : ℕ) → At s i (M.opener sh) → Space s (i + 1) j → At s j b
+      → move ws b ≡ pass → Done s (first sh n ∷ []) j e → Done s (value (suc n) ∷ []) i e
   open-done {i} sh n b o w p m r =
-      seq (eat-byte (value (suc n)) (ws ∷ first sh n ∷ []) [] o (B.value-opens (M.opener sh) (suc n) sh refl))
+      seq (takes-at (value (suc n)) [] o (ws ∷ first sh n ∷ []) (value-opens (M.opener sh) (suc n) sh refl))
       (seq (frame (first sh n ∷ []) (space-done w p m)) r)
 
   enter-list : {i e : ℕ} (n : ℕ) → Starts s i → Done s (inner a-list n) i e → Done s (first a-list n ∷ []) i e
   enter-list {i} n v r =
-      seq (alike (first a-list n ∷ []) (inner a-list n) (v .at .inside) (B.first-enters (getD s i 0) a-list n (λ z. v .inner (sym (v .at .is) ∙ z)))) r
+      let e = first-enters (getD s i 0) a-list n (λ z. v .inner (sym (v .at .is) ∙ z)) in
+      seq (alike (first a-list n ∷ []) (inner a-list n) (v .at .inside) e) r
 
-  enter-object : {i e : ℕ} (n : ℕ) → At s i 34 → Done s (M.before an-object ++ inner an-object n) i e → Done s (first an-object n ∷ []) i e
+  enter-object : {i e : ℕ} (n : ℕ) → At s i 34 → Done s (M.before an-object ++ inner an-object n) i e
+      → Done s (first an-object n ∷ []) i e
   enter-object {i} n p r =
       let z = p .is in
-      seq (alike (first an-object n ∷ []) (M.before an-object ++ inner an-object n) (p .inside) (B.first-enters (getD s i 0) an-object n (omega arith))) r
+      let e = first-enters (getD s i 0) an-object n (omega arith) in
+      seq (alike (first an-object n ∷ []) (M.before an-object ++ inner an-object n) (p .inside) e) r
 
-  close-done : {i j : ℕ} (sh : Shape) (n : ℕ) → Space s i j → At s j (M.close sh) → move ws (M.close sh) ≡ pass → Done s (ws ∷ next sh n ∷ []) i (j + 1)
+  close-done : {i j : ℕ} (sh : Shape) (n : ℕ) → Space s i j → At s j (M.close sh) → move ws (M.close sh) ≡ pass
+      → Done s (ws ∷ next sh n ∷ []) i (j + 1)
   close-done sh n w p m =
-      seq (frame (next sh n ∷ []) (space-done w p m)) (eat-byte (next sh n) [] [] p (B.next-close (M.close sh) sh n refl))
+      seq (frame (next sh n ∷ []) (space-done w p m)) (takes-at (next sh n) [] p [] (next-close (M.close sh) sh n refl))
 
-  comma-done : {i j k b e : ℕ} (sh : Shape) (n : ℕ) → Space s i j → At s j 44 → Space s (j + 1) k → At s k b → move ws b ≡ pass → Done s (M.before sh ++ inner sh n) k e → Done s (ws ∷ next sh n ∷ []) i e
+  comma-done : {i j k b e : ℕ} (sh : Shape) (n : ℕ) → Space s i j → At s j 44 → Space s (j + 1) k → At s k b
+      → move ws b ≡ pass → Done s (M.before sh ++ inner sh n) k e → Done s (ws ∷ next sh n ∷ []) i e
   unfolding move oneOf
   comma-done sh n w o x p m r =
       seq (frame (next sh n ∷ []) (space-done w o refl))
@@ -232,20 +124,22 @@ module _ {s : List ℕ} where
 quote-begins : (n b : ℕ) → b ≡ 34 → (k : List Item) → feed (value n ∷ k) b ≡ feed (byte 34 ∷ text ∷ k) b
 unfolding feed
 quote-begins n b e k =
-    ap (λ (m : Move). M.onto m k (feed k b)) (B.value-text b n e)
-    ∙ sym (ap (λ (m : Move). M.onto m (text ∷ k) (feed (text ∷ k) b)) (B.byte-is b 34 e))
+    ap (λ (m : Move). M.onto m k (feed k b)) (value-text b n e)
+    ∙ sym (ap (λ (m : Move). M.onto m (text ∷ k) (feed (text ∷ k) b)) (byte-is b 34 e))
 
-pub reads-done : {s : List ℕ} {p : Piece} {i e : ℕ} (n : ℕ) → Reads s p i e → deepness p ≤ n → Stopped s p e → Done s (owed n p) i e
+pub reads-done : {s : List ℕ} {p : Piece} {i e : ℕ} (n : ℕ) → Reads s p i e → deepness p ≤ n → Stopped s p e
+    → Done s (owed n p) i e
 unfolding depth move oneOf
-reads-done n (a-null p) h c = word-done n 110 (117 ∷ 108 ∷ 108 ∷ []) p (B.value-null 110 n refl)
-reads-done n (a-true p) h c = word-done n 116 (114 ∷ 117 ∷ 101 ∷ []) p (B.value-true 116 n refl)
-reads-done n (a-false p) h c = word-done n 102 (97 ∷ 108 ∷ 115 ∷ 101 ∷ []) p (B.value-false 102 n refl)
+reads-done n (a-null p) h c = word-done n 110 (117 ∷ 108 ∷ 108 ∷ []) p (value-null 110 n refl)
+reads-done n (a-true p) h c = word-done n 116 (114 ∷ 117 ∷ 101 ∷ []) p (value-true 116 n refl)
+reads-done n (a-false p) h c = word-done n 102 (97 ∷ 108 ∷ 115 ∷ 101 ∷ []) p (value-false 102 n refl)
 reads-done {s} {e = e} n (a-number p w) h c = eats-done (value n ∷ []) p (number-eat n w (drop e s) (ends-calm c))
 reads-done {s} n (a-string {i} p) h c =
-    seq (alike (value n ∷ []) (byte 34 ∷ text ∷ []) (p .opens .inside) (quote-begins n (getD s i 0) (p .opens .is))) (quoted-done p)
+    seq (alike (value n ∷ []) (byte 34 ∷ text ∷ []) (p .opens .inside) (quote-begins n (getD s i 0) (p .opens .is)))
+    (quoted-done p)
 reads-done zero (empty-list o w p) h c = absurd (omega arith)
 reads-done (suc n) (empty-list o w p) h c =
-    open-done a-list n 93 o w p refl (eat-byte (first a-list n) [] [] p (B.first-close 93 a-list n refl))
+    open-done a-list n 93 o w p refl (takes-at (first a-list n) [] p [] (first-close 93 a-list n refl))
 reads-done zero (some-list o w r) h c = absurd (omega arith)
 reads-done (suc n) (some-list o w r) h c =
     let v = elements-start r in
@@ -257,7 +151,7 @@ reads-done n (comma-list w o x r) h c =
     let v = elements-start r in comma-done a-list n w o x (v .at) (v .black) (reads-done n r h tt)
 reads-done zero (empty-object o w p) h c = absurd (omega arith)
 reads-done (suc n) (empty-object o w p) h c =
-    open-done an-object n 125 o w p refl (eat-byte (first an-object n) [] [] p (B.first-close 125 an-object n refl))
+    open-done an-object n 125 o w p refl (takes-at (first an-object n) [] p [] (first-close 125 an-object n refl))
 reads-done zero (some-object o w r) h c = absurd (omega arith)
 reads-done (suc n) (some-object o w r) h c =
     let v = members-start r in open-done an-object n 34 o w v refl (enter-object n v (reads-done n r (omega arith) tt))
@@ -265,9 +159,10 @@ reads-done n (member {t = t} {ms = ms} q w o x v r) h c =
     let b = value-starts v in
     seq (frame (ws ∷ byte 58 ∷ ws ∷ inner an-object n) (quoted-done q))
     (seq (frame (byte 58 ∷ ws ∷ inner an-object n) (space-done w o refl))
-    (seq (eat-byte (byte 58) [] (ws ∷ inner an-object n) o (B.byte-is 58 58 refl))
+    (seq (takes-at (byte 58) (ws ∷ inner an-object n) o [] (byte-is 58 58 refl))
     (seq (frame (inner an-object n) (space-done x (b .at) (b .black)))
-    (seq (frame (ws ∷ next an-object n ∷ []) (reads-done n v (omega arith) (ends-more r))) (reads-done n r (omega arith) tt)))))
+    (seq (frame (ws ∷ next an-object n ∷ []) (reads-done n v (omega arith) (ends-more r)))
+    (reads-done n r (omega arith) tt)))))
 reads-done n (close-object w p) h c = close-done an-object n w p refl
 reads-done n (comma-object w o x r) h c = comma-done an-object n w o x (members-start r) refl (reads-done n r h tt)
 
@@ -279,4 +174,5 @@ text-complete n s t =
     let v = value-starts (p .reads) in
     let w = space-done (p .before) (v .at) (v .black) in
     let r = reads-done n (p .reads) (t .shallow) (ends-after (p .after)) in
-    seq (frame (value n ∷ ws ∷ []) w) (seq (frame (ws ∷ []) r) (space-end (p .after))) .goes [] ∙ from-empty [] s (length s) refl
+    seq (frame (value n ∷ ws ∷ []) w) (seq (frame (ws ∷ []) r) (space-end (p .after))) .goes []
+    ∙ from-empty [] s (length s) refl

@@ -1,15 +1,16 @@
 -- Items that take all of some bytes and are done before what follows.
-use mathlib.Core.Path.{_≡_, refl, sym, ap, _∙_, subst}
-use mathlib.Core.Bool.{Bool, true, false}
+use mathlib.Core.Path.{_≡_, refl, ap, _∙_}
+use mathlib.Core.Bool.{true}
 use mathlib.Core.List.{List, [], _∷_, _++_, map}
-use Prim.Native.Nat.{ℕ, _+_, _≤_}
+use Prim.Native.Nat.{ℕ, _+_}
 use native.Mathlib.Omega.{arith}
 use lib.ListN.{length, drop}
 use Rattle.text.specs.Json.{Spelt}
-use Rattle.text.specs.Machine.{Item, Move, pass, go, byte, digits, fraction, exponent, move, optional, onto, feed, ends, after, run, from}
-use Rattle.text.specs.Reading.{Leads, Done}
+use Rattle.text.specs.Machine.{Item, pass, go, byte, digits, fraction, exponent, move, optional, feed, ends, run}
+use Rattle.text.specs.Machine.{from}
+use Rattle.text.specs.Reading.{Done}
 use Rattle.text.proofs.Laws.Parts.{spelt-drop, spelt-length}
-use Rattle.text.proofs.Laws.Moves.{byte-is}
+use Rattle.text.proofs.Laws.Moves.Bytes.{byte-is}
 
 -- the items xs take the bytes w before the bytes r, and nothing of r
 abbrev pub Eats : List Item → List ℕ → List ℕ → Type 0
@@ -53,10 +54,13 @@ eats-done {s} {w} {i} {e} xs p f =
     record {
       low = p .order;
       high = p .inside;
-      goes = λ k. ap (λ (l : List ℕ). run (xs ++ k) l i) (spelt-drop p) ∙ f k i ∙ ap (run k (drop e s)) (spelt-length p);
+      goes = λ k.
+          ap (λ (l : List ℕ). run (xs ++ k) l i) (spelt-drop p) ∙ f k i ∙ ap (run k (drop e s)) (spelt-length p);
     }
 
 pub word-eats : (w r : List ℕ) → Eats (map byte w) w r
 word-eats [] r k at = ap (run k r) (omega arith)
 word-eats (b ∷ w) r k at =
-    run-takes (byte b) (map byte w ++ k) (w ++ r) at b [] (byte-is b b refl) ∙ word-eats w r k (at + 1) ∙ ap (run k r) (omega arith)
+    run-takes (byte b) (map byte w ++ k) (w ++ r) at b [] (byte-is b b refl)
+    ∙ word-eats w r k (at + 1)
+    ∙ ap (run k r) (omega arith)

@@ -15,7 +15,7 @@ use Rattle.text.specs.declared.scan.Shape.{Shape}
 use Rattle.text.specs.declared.scan.Shape.the-variants.{List as list, Object as object}
 use Rattle.text.specs.declared.scan.Verdict.{Verdict}
 use Rattle.text.specs.declared.scan.Verdict.the-variants.{Deep}
-use Rattle.text.proofs.Laws.Moves.{first-close}
+use Rattle.text.proofs.Laws.Moves.Values.{first-close}
 use Rattle.text.proofs.Laws.Live.{Lax, l-ws, l-digits, l-fraction, l-exponent, Shut, s-byte, s-range, s-hex}
 use Rattle.text.proofs.Laws.Live.{s-text, s-escape, s-digit, s-sign, s-first, s-next, Calm, calm-close}
 use Rattle.text.proofs.Laws.Live.{calm-quote, Ends, ends-lax, ends-shut, Kin, none, lax, shut, an-integer}

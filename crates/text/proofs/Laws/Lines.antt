@@ -1,73 +1,23 @@
 -- The lines found place by place are the lines of the text, and a text has one list of lines.
 use mathlib.Core.Path.{_≡_, refl, sym, ap, _∙_, subst}
-use mathlib.Core.Bool.{Bool, true, false}
-use mathlib.Core.List.{List, [], _∷_, _++_, append-nil}
-use Prim.Native.Nat.{ℕ, zero, suc, _+_, _-_, _≤_, _<_}
+use mathlib.Core.List.{List, [], _∷_, _++_}
+use Prim.Native.Nat.{ℕ, _+_, _-_, _≤_, _<_}
 use native.Mathlib.Omega.{arith}
-use native.Mathlib.Numerals.{add-one}
-use native.Mathlib.Decide.{decLt, ℕ-discrete}
-use lib.Dec.{eqb, ltb}
-use lib.ListN.{length, getD, take, drop, take-append-drop, length-drop, length-append, drop-of-length-le}
-use lib.Seq.{drop-cons, drop-drop, drop-length, take-all, take-at, drop-append-add}
-use borrow.Author.Tests.{eq-eqb, ne-eqb, lt-ltb, le-ltb}
-use Rattle.text.specs.Base.{pick, part}
-use Rattle.text.specs.Lines.{Unbroken, none, more, Lines, nothing, last, line, unbroken, lineTo, lineAt}
-use Rattle.text.specs.declared.lines.Line.{Line}
+use native.Mathlib.Decide.{decLt}
+use lib.ListN.{length, take, drop, length-drop, length-append, drop-of-length-le}
+use lib.Seq.{drop-drop, drop-length, take-all, take-at, drop-append-add}
+use Rattle.text.specs.Base.{part}
+use Rattle.text.specs.Lines.{Unbroken, none, more, Lines, nothing, last, line, unbroken, lineAt}
 use Rattle.text.specs.declared.lines.Line.the-variants.{Here, None}
-
--- ---- counting to the first LF
-
-pub unbroken-lf : (s : List ℕ) (i : ℕ) → i < length s → getD s i 0 ≡ 10 → unbroken (drop i s) ≡ 0
-unfolding unbroken
-unbroken-lf s i h e = ap unbroken (drop-cons s i 0 h) ∙ rw (eq-eqb (getD s i 0) 10 e)
-
-pub unbroken-more : (s : List ℕ) (i : ℕ) → i < length s → (getD s i 0 ≡ 10 → ⊥) → i + unbroken (drop i s) ≡ i + 1 + unbroken (drop (i + 1) s)
-unfolding unbroken
-unbroken-more s i h n =
-    let one : unbroken (drop i s) ≡ suc (unbroken (drop (suc i) s)) = ap unbroken (drop-cons s i 0 h) ∙ rw (ne-eqb (getD s i 0) 10 n) in
-    let same : unbroken (drop (suc i) s) ≡ unbroken (drop (i + 1) s) = ap (λ (k : ℕ). unbroken (drop k s)) (sym (add-one i)) in
-    omega (arith, one, same)
-
-pub unbroken-end : (s : List ℕ) (i : ℕ) → length s ≤ i → unbroken (drop i s) ≡ 0
-unfolding unbroken
-unbroken-end s i h = ap unbroken (drop-of-length-le s h)
-
--- ---- the line that the code finds
-
-pub line-some : (s : List ℕ) (i e : ℕ) → i < length s → e ≡ i + unbroken (drop i s) → lineTo s e ≡ lineAt s i
-unfolding lineAt
-line-some s i e h z = rw (lt-ltb i (length s) h) (ap (lineTo s) z)
-
-pub line-lf : (s : List ℕ) (i e : ℕ) → i < length s → e ≡ i + unbroken (drop i s) → e < length s → Here e (e + 1) ≡ lineAt s i
-line-lf s i e h z g = sym (rw (lt-ltb e (length s) g)) ∙ line-some s i e h z
-
-pub line-last : (s : List ℕ) (i e : ℕ) → i < length s → e ≡ i + unbroken (drop i s) → length s ≤ e → Here e e ≡ lineAt s i
-line-last s i e h z g = sym (rw (le-ltb e (length s) g)) ∙ line-some s i e h z
-
-pub line-over : (s : List ℕ) (i : ℕ) → length s ≤ i → None ≡ lineAt s i
-unfolding lineAt
-line-over s i h = rw (le-ltb i (length s) h)
-
--- ---- what it means
-
-data Cut (w : List ℕ) : Type 0 where
-  all : Unbroken w → unbroken w ≡ length w → Cut w
-  before : (v r : List ℕ) → w ≡ v ++ (10 ∷ r) → Unbroken v → unbroken w ≡ length v → Cut w
-
-cut-cons : (b : ℕ) (w : List ℕ) → Dec (b ≡ 10) → Cut w → Cut (b ∷ w)
-unfolding unbroken
-cut-cons b w (yes e) c = before [] w (ap (λ (x : ℕ). x ∷ w) e) none (rw (eq-eqb b 10 e))
-cut-cons b w (no n) (all u z) = all (more n u) (rw (ne-eqb b 10 n) (ap suc z))
-cut-cons b w (no n) (before v r q u z) = before (b ∷ v) r (ap (λ (l : List ℕ). b ∷ l) q) (more n u) (rw (ne-eqb b 10 n) (ap suc z))
-
-cut : (w : List ℕ) → Cut w
-unfolding unbroken
-cut [] = all none refl
-cut (b ∷ w) = cut-cons b w (ℕ-discrete b 10) (cut w)
+use Rattle.text.proofs.Laws.Lines.Found.{line-lf, line-last, line-over, Cut, all, before, cut, unbroken-within}
+pub mod Found
 
 -- no line begins past the end, and a line begins anywhere else
 here-none : (e n : ℕ) → Here e n ≡ None → ⊥
 here-none e n q = let z : _≡_ {A = ℕ} 0 1 = cc in omega arith
+
+here-same : {e f n m : ℕ} → Here e n ≡ Here f m → (e ≡ f) × (n ≡ m)
+here-same q = (cc, cc)
 
 line-begins : (s : List ℕ) (i : ℕ) → i < length s → lineAt s i ≡ None → ⊥
 line-begins s i h q = by (decLt (i + unbroken (drop i s)) (length s))
@@ -106,13 +56,17 @@ module _ (s : List ℕ) (i : ℕ) (v r : List ℕ) (q : drop i s ≡ v ++ (10 �
   line-next : drop (i + length v + 1) s ≡ r
   line-next =
       let k : i + (length v + 1) ≡ i + length v + 1 = omega arith in
-      ap (λ (n : ℕ). drop n s) (sym k) ∙ sym (drop-drop (length v + 1) i s) ∙ ap (drop (length v + 1)) q ∙ rw (drop-append-add v (10 ∷ r) 1)
+      ap (λ (n : ℕ). drop n s) (sym k)
+      ∙ sym (drop-drop (length v + 1) i s)
+      ∙ ap (drop (length v + 1)) q
+      ∙ rw (drop-append-add v (10 ∷ r) 1)
 
   line-inside : i + length v < length s
   line-inside = let l = sym (length-drop i s) ∙ ap length q ∙ length-append v (10 ∷ r) in omega arith
 
 -- the line found, and the lines from the next place on, are the lines from here on
-pub line-here : (s : List ℕ) (i e n : ℕ) (ls : List (List ℕ)) → lineAt s i ≡ Here e n → Lines (drop n s) ls → Lines (drop i s) (part s i e ∷ ls)
+pub line-here : (s : List ℕ) (i e n : ℕ) (ls : List (List ℕ)) → lineAt s i ≡ Here e n → Lines (drop n s) ls
+    → Lines (drop i s) (part s i e ∷ ls)
 line-here s i e n ls q r = by (decLt i (length s))
   where
     ended : i < length s → e ≡ length s → n ≡ length s → Unbroken (drop i s) → Lines (drop i s) (part s i e ∷ ls)
@@ -123,9 +77,11 @@ line-here s i e n ls q r = by (decLt i (length s))
         subst (λ (x : List (List ℕ)). Lines (drop i s) (part s i e ∷ x)) (sym z)
         (subst (λ (x : List ℕ). Lines (drop i s) (x ∷ [])) (sym w) (last-line (drop i s) (omega arith) u))
 
-    broken : (v t : List ℕ) → drop i s ≡ v ++ (10 ∷ t) → Unbroken v → e ≡ i + length v → n ≡ i + length v + 1 → Lines (drop i s) (part s i e ∷ ls)
+    broken : (v t : List ℕ) → drop i s ≡ v ++ (10 ∷ t) → Unbroken v → e ≡ i + length v → n ≡ i + length v + 1
+        → Lines (drop i s) (part s i e ∷ ls)
     broken v t z u a b =
-        let tail : Lines t ls = subst (λ (x : List ℕ). Lines x ls) (ap (λ (k : ℕ). drop k s) b ∙ line-next s i v t z) r in
+        let next : drop n s ≡ t = ap (λ (k : ℕ). drop k s) b ∙ line-next s i v t z in
+        let tail : Lines t ls = subst (λ (x : List ℕ). Lines x ls) next r in
         let w : v ≡ part s i e = sym (ap (part s i) a ∙ line-part s i v t z) in
         subst (λ (x : List ℕ). Lines x (part s i e ∷ ls)) (sym z)
         (subst (λ (x : List ℕ). Lines (v ++ (10 ∷ t)) (x ∷ ls)) w (line u tail))
@@ -133,15 +89,11 @@ line-here s i e n ls q r = by (decLt i (length s))
     cases : i < length s → Cut (drop i s) → Lines (drop i s) (part s i e ∷ ls)
     cases h (all u z) =
         let l = length-drop i s in
-        let p : Here (i + unbroken (drop i s)) (i + unbroken (drop i s)) ≡ Here e n = line-last s i _ h refl (omega arith) ∙ q in
-        let a : i + unbroken (drop i s) ≡ e = cc in
-        let b : i + unbroken (drop i s) ≡ n = cc in
+        let p = here-same (line-last s i (i + unbroken (drop i s)) h refl (omega arith) ∙ q) in
         ended h (omega arith) (omega arith) u
     cases h (before v t y u z) =
         let g = line-inside s i v t y in
-        let p : Here (i + unbroken (drop i s)) (i + unbroken (drop i s) + 1) ≡ Here e n = line-lf s i _ h refl (omega arith) ∙ q in
-        let a : i + unbroken (drop i s) ≡ e = cc in
-        let b : i + unbroken (drop i s) + 1 ≡ n = cc in
+        let p = here-same (line-lf s i (i + unbroken (drop i s)) h refl (omega arith) ∙ q) in
         broken v t y u (omega arith) (omega arith)
 
     by : Dec (i < length s) → Lines (drop i s) (part s i e ∷ ls)
@@ -190,27 +142,16 @@ pub record Ahead (s : List ℕ) (i e n : ℕ) : Type 0 where
   pub next : n ≤ length s
   pub later : i < n
 
-unbroken-within : (w : List ℕ) → unbroken w ≤ length w
-unbroken-within w = by (cut w)
-  where
-    by : Cut w → unbroken w ≤ length w
-    by (all u z) = omega arith
-    by (before v r y u z) = let l = ap length y ∙ length-append v (10 ∷ r) in omega arith
-
 pub line-ahead : (s : List ℕ) (i e n : ℕ) → lineAt s i ≡ Here e n → Ahead s i e n
 line-ahead s i e n q = by (decLt i (length s)) (decLt (i + unbroken (drop i s)) (length s))
   where
     by : Dec (i < length s) → Dec (i + unbroken (drop i s) < length s) → Ahead s i e n
     by (no h) d = absurd (here-none e n (sym q ∙ sym (line-over s i (omega arith))))
     by (yes h) (yes g) =
-        let p : Here (i + unbroken (drop i s)) (i + unbroken (drop i s) + 1) ≡ Here e n = line-lf s i _ h refl g ∙ q in
-        let a : i + unbroken (drop i s) ≡ e = cc in
-        let b : i + unbroken (drop i s) + 1 ≡ n = cc in
+        let p = here-same (line-lf s i (i + unbroken (drop i s)) h refl g ∙ q) in
         record { order = omega arith; inside = omega arith; next = omega arith; later = omega arith }
     by (yes h) (no g) =
-        let p : Here (i + unbroken (drop i s)) (i + unbroken (drop i s)) ≡ Here e n = line-last s i _ h refl (omega arith) ∙ q in
-        let a : i + unbroken (drop i s) ≡ e = cc in
-        let b : i + unbroken (drop i s) ≡ n = cc in
+        let p = here-same (line-last s i (i + unbroken (drop i s)) h refl (omega arith) ∙ q) in
         let u = unbroken-within (drop i s) in
         let l = length-drop i s in
         record { order = omega arith; inside = omega arith; next = omega arith; later = omega arith }

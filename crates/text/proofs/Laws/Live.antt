@@ -13,7 +13,8 @@ use Rattle.text.specs.Machine.{feed, ends, run}
 use Rattle.text.specs.declared.scan.Shape.{Shape}
 use Rattle.text.specs.declared.scan.Shape.the-variants.{List as list, Object as object}
 use Rattle.text.specs.declared.scan.Verdict.the-variants.{Whole}
-use Rattle.text.proofs.Laws.Moves.{byte-is, first-close, next-close}
+use Rattle.text.proofs.Laws.Moves.Bytes.{byte-is}
+use Rattle.text.proofs.Laws.Moves.Values.{first-close, next-close}
 
 -- items that are done before some byte
 pub data Lax : Item → Type 0 where

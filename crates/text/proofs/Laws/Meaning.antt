@@ -1,13 +1,13 @@
--- The scan's verdict is the one that specs/Verdicts means, and the only one: the twin agrees with the grammar both ways.
+-- The scan's verdict is what specs/Verdicts means, and only that: the twin agrees with the grammar both ways.
 use mathlib.Core.Path.{_≡_}
 use mathlib.Core.List.{List}
 use Prim.Native.Nat.{ℕ}
 use Rattle.text.specs.Machine.{verdict}
 use Rattle.text.specs.Verdicts.{Means}
 use Rattle.text.specs.declared.scan.Verdict.{Verdict}
+use Rattle.text.proofs.Laws.Verdict as V1
 use Rattle.text.proofs.Laws.Complete.{text-complete}
 use Rattle.text.proofs.Laws.Sound.{text-sound}
-use Rattle.text.proofs.Laws.Verdict as V1
 
 pub verdict-means : (s : List ℕ) → Means s (verdict s)
 verdict-means s = V1.verdict-means text-sound text-complete s

@@ -1,10 +1,9 @@
 -- Parts of a text: what a part says of the bytes from a place on, and parts laid end to end.
-use mathlib.Core.Path.{_≡_, refl, sym, ap, _∙_, subst}
-use mathlib.Core.List.{List, [], _∷_, _++_, append-assoc}
-use Prim.Native.Nat.{ℕ, zero, suc, _+_, _-_, _≤_, _<_}
-use native.Mathlib.Numerals.{add-one}
+use mathlib.Core.Path.{_≡_, sym, ap, _∙_}
+use mathlib.Core.List.{List, [], _∷_, _++_}
+use Prim.Native.Nat.{ℕ, _+_, _-_, _≤_, _<_}
 use native.Mathlib.Omega.{arith}
-use lib.ListN.{length, getD, take, drop, length-take, length-drop, length-append, take-append-drop}
+use lib.ListN.{length, getD, take, drop, length-drop, take-append-drop}
 use lib.Seq.{drop-cons, drop-drop, take-add, length-take-le}
 use Rattle.text.specs.Base.{At, part}
 use Rattle.text.specs.Json.{Spelt}
@@ -57,7 +56,9 @@ spelt-append {s} {w} {v} {i} {j} {e} p q =
     record {
       order = omega (arith, p .order, q .order);
       inside = q .inside;
-      is = sym (part-append s i j e (p .order) (q .order)) ∙ ap (λ (l : List ℕ). l ++ part s j e) (p .is) ∙ ap (λ (l : List ℕ). w ++ l) (q .is);
+      is = sym (part-append s i j e (p .order) (q .order))
+          ∙ ap (λ (l : List ℕ). l ++ part s j e) (p .is)
+          ∙ ap (λ (l : List ℕ). w ++ l) (q .is);
     }
 
 pub spelt-cons : {s w : List ℕ} {i b e : ℕ} → At s i b → Spelt s w (i + 1) e → Spelt s (b ∷ w) i e

@@ -2,18 +2,20 @@
 use mathlib.Core.Path.{_≡_, refl, sym, ap, _∙_, subst}
 use mathlib.Core.Bool.{Bool, true, false}
 use mathlib.Core.List.{List, [], _∷_, _++_, map, append-nil}
-use Prim.Native.Nat.{ℕ, suc, _+_, _≤_, _<_}
+use Prim.Native.Nat.{ℕ, _+_, _≤_, _<_}
 use native.Mathlib.Omega.{arith}
 use native.Mathlib.Decide.{decLt}
 use lib.Dec.{eqb}
 use lib.ListN.{length, getD, drop}
 use Rattle.text.specs.Base.{pick}
-use Rattle.text.specs.Machine.{Item, Move, pass, bad, deep, go, byte, range, text, char, move, optional, onto, owing, feed, ends, after, run, from, value}
+use Rattle.text.specs.Machine.{Item, Move, pass, bad, deep, go, byte, range, text, char, move, optional, owing}
+use Rattle.text.specs.Machine.{feed, ends, after, run, from, value}
 use Rattle.text.specs.Reading.{Leads, Done, Falls, Fault}
 use Rattle.text.specs.declared.scan.Verdict.{Verdict}
 use Rattle.text.specs.declared.scan.Verdict.the-variants.{Whole, Breaks, Deep}
-use Rattle.text.proofs.Laws.Reading.{from-cons, from-empty, takes, refuses, sinks, stops}
-use Rattle.text.proofs.Laws.Moves.{Firm, char-firm, value-firm, byte-is, range-under, range-over}
+use Rattle.text.proofs.Laws.Reading.{from-cons, takes, refuses, sinks, stops}
+use Rattle.text.proofs.Laws.Moves.Owing.{Firm, char-firm, value-firm}
+use Rattle.text.proofs.Laws.Moves.Bytes.{byte-is, range-under, range-over}
 
 -- a verdict that is a fault is not Whole
 pub not-whole : (v : Verdict) → Fault v → v ≡ Whole → ⊥
@@ -31,7 +33,8 @@ late-end : (t : Bool) {at p : ℕ} → pick t Whole (Breaks at) ≡ Breaks p →
 late-end true {at} {p} e = absurd (not-whole (Breaks p) tt (sym e))
 late-end false e = let q = same-break e in omega arith
 
-late-on : (m : Move) (f : List Item → Verdict) {at p : ℕ} → ((l : List Item) → f l ≡ Breaks p → at + 1 ≤ p) → after m at f ≡ Breaks p → at ≤ p
+late-on : (m : Move) (f : List Item → Verdict) {at p : ℕ} → ((l : List Item) → f l ≡ Breaks p → at + 1 ≤ p)
+    → after m at f ≡ Breaks p → at ≤ p
 late-on pass f r e = let q = same-break e in omega arith
 late-on bad f r e = let q = same-break e in omega arith
 late-on deep f r e = absurd (deep-breaks e)
@@ -62,7 +65,10 @@ pub alive-seq : {s : List ℕ} {xs ys : List Item} {a b : ℕ} → Alive s xs a 
 alive-seq {s} {xs} {ys} {a} {b} l p =
     record {
       high = p .high;
-      lives = ap (λ (k : List Item). from k s b) (sym (append-nil ys)) ∙ sym (p .goes []) ∙ ap (λ (k : List Item). from k s a) (append-nil xs) ∙ l .lives;
+      lives = ap (λ (k : List Item). from k s b) (sym (append-nil ys))
+          ∙ sym (p .goes [])
+          ∙ ap (λ (k : List Item). from k s a) (append-nil xs)
+          ∙ l .lives;
     }
 
 pub done-alive : {s : List ℕ} {xs : List Item} {i n : ℕ} → Done s xs i n → Alive s (xs ++ map byte (drop n s)) i
@@ -71,7 +77,8 @@ done-alive {s} {xs} {i} {n} p =
     record { high = omega (arith, p .low, p .high); lives = p .goes (map byte (drop n s)) ∙ own (drop n s) n }
 
 -- an item that may not be left out stands inside the text
-pub alive-inside : {s : List ℕ} {i : ℕ} (x : Item) (ys : List Item) → optional x ≡ false → Alive s (x ∷ ys) i → i < length s
+pub alive-inside : {s : List ℕ} {i : ℕ} (x : Item) (ys : List Item) → optional x ≡ false → Alive s (x ∷ ys) i
+    → i < length s
 alive-inside {s} {i} x ys e v = by (decLt i (length s))
   where
     by : Dec (i < length s) → i < length s
@@ -92,7 +99,8 @@ probe s n h = by (decLt n (length s)) (decLt (getD s n 0) 1)
 
 pub done-unique : {s : List ℕ} {at n m : ℕ} (xs : List Item) → Done s xs at n → Done s xs at m → n ≡ m
 done-unique {s} {at} {n} {m} xs p q =
-    same-break (sym (probe s n (p .high)) ∙ sym (p .goes (range 1 0 ∷ [])) ∙ q .goes (range 1 0 ∷ []) ∙ probe s m (q .high))
+    same-break
+    (sym (probe s n (p .high)) ∙ sym (p .goes (range 1 0 ∷ [])) ∙ q .goes (range 1 0 ∷ []) ∙ probe s m (q .high))
 
 -- ---- a firm item is done past the byte that it took
 
@@ -100,9 +108,11 @@ pub past-end : (s : List ℕ) (i : ℕ) → i < length s → from [] s i ≡ Bre
 unfolding feed
 past-end s i h = from-cons [] s i h
 
-pub done-grows : {s : List ℕ} {i n : ℕ} (x : Item) → optional x ≡ false → ((b : ℕ) → Firm (move x b)) → Done s (x ∷ []) i n → i < n
+pub done-grows : {s : List ℕ} {i n : ℕ} (x : Item) → optional x ≡ false → ((b : ℕ) → Firm (move x b))
+    → Done s (x ∷ []) i n → i < n
 unfolding Firm from
-done-grows {s} {i} {n} x o f p = by (alive-inside x (map byte (drop n s)) o (done-alive p)) (move x (getD s i 0)) refl (f (getD s i 0)) (decLt i n)
+done-grows {s} {i} {n} x o f p =
+    by (alive-inside x (map byte (drop n s)) o (done-alive p)) (move x (getD s i 0)) refl (f (getD s i 0)) (decLt i n)
   where
     by : i < length s → (m : Move) → move x (getD s i 0) ≡ m → Firm m → Dec (i < n) → i < n
     by h m e g (yes q) = q

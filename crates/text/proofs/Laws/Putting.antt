@@ -1,4 +1,4 @@
--- Laws of Putting.
+-- Laws of Putting: bytes are put all or not at all, so a run keeps its length and what is put adds up.
 --   lay-length, put-length     a run keeps its length
 --   put-append                 two things put one behind the other are put as one
 use mathlib.Core.Path.{_≡_, refl, sym, ap, _∙_, subst}

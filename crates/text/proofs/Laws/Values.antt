@@ -6,8 +6,9 @@ use native.Mathlib.Omega.{arith}
 use native.Mathlib.Numerals.{sub-one}
 use lib.ListN.{length, getD}
 use Rattle.text.specs.Json.{levels}
-use Rattle.text.specs.Machine.{Item, Move, go, deep, ws, byte, text, value, first, next, before, inner, close, opener, opens, move, optional, ends, verdictAt, verdict}
-use Rattle.text.specs.Reading.{Leads, Done, Falls, Goes, Opened, Opens, Enters, Begins, Continues, Followed, Follows}
+use Rattle.text.specs.Machine.{go, ws, byte, text, value, first, next, before, inner, close, opener, opens}
+use Rattle.text.specs.Machine.{optional, ends, verdictAt, verdict}
+use Rattle.text.specs.Reading.{Leads, Done, Falls, Goes, Opens, Enters, Begins, Followed, Follows}
 use Rattle.text.specs.declared.scan.Verdict.{Verdict}
 use Rattle.text.specs.declared.scan.Verdict.the-variants.{Whole, Breaks, Deep}
 use Rattle.text.specs.declared.scan.Part.{Part}
@@ -18,9 +19,12 @@ use Rattle.text.specs.declared.scan.Begun.{Begun}
 use Rattle.text.specs.declared.scan.Begun.the-variants.{Ends, Inner}
 use Rattle.text.specs.declared.scan.Next.{Next}
 use Rattle.text.specs.declared.scan.Next.the-variants.{Inner as Another, Closed, Fails as Stops}
-use Rattle.text.proofs.Laws.Reading.{stay, seq, frame, fall, fall-frame, goes-seq, past, fell, takes, refuses, sinks, stops, alike, from-empty}
+use Rattle.text.proofs.Laws.Reading.{stay, seq, frame, fall, fall-frame, goes-seq, past, fell, takes, refuses}
+use Rattle.text.proofs.Laws.Reading.{sinks, stops, alike, from-empty}
 use Rattle.text.proofs.Laws.Places.{past-end}
-use Rattle.text.proofs.Laws.Moves.{byte-is, byte-not, value-opens, first-close, first-enters, next-close, next-comma, next-not}
+use Rattle.text.proofs.Laws.Moves.Bytes.{byte-is, byte-not}
+use Rattle.text.proofs.Laws.Moves.Values.{value-opens, first-close, next-close, next-comma, next-not}
+use Rattle.text.proofs.Laws.Moves.Owing.{first-enters}
 
 -- ---- before an inner value
 
@@ -35,7 +39,8 @@ module _ (s : List ℕ) (i : ℕ) {sh : Shape} (e : sh ≡ object) where
   pub before-wrong : i < length s → (getD s i 0 ≡ 34 → ⊥) → Falls s (before sh) i (Breaks i)
   before-wrong h g = rw e (refuses (byte 34) (text ∷ ws ∷ byte 58 ∷ ws ∷ []) h (byte-not (getD s i 0) 34 g))
 
-  pub before-name : i < length s → getD s i 0 ≡ 34 → (r : Part) → Goes s (text ∷ ws ∷ byte 58 ∷ ws ∷ []) (i + 1) r → Goes s (before sh) i r
+  pub before-name : i < length s → getD s i 0 ≡ 34 → (r : Part) → Goes s (text ∷ ws ∷ byte 58 ∷ ws ∷ []) (i + 1) r
+      → Goes s (before sh) i r
   before-name h q r g =
       subst (λ (x : Shape). Goes s (before x) i r) (sym e)
       (goes-seq r (takes (byte 34) (text ∷ ws ∷ byte 58 ∷ ws ∷ []) [] h (byte-is (getD s i 0) 34 q)) g)
@@ -51,16 +56,23 @@ module _ {s : List ℕ} {sh : Shape} {a i : ℕ} (w : Done s (ws ∷ []) a i) wh
   opened-short h = record { at-any = λ n. fall (to-first n) (stops (first sh n) [] (omega (arith, w .high)) refl) }
 
   pub opened-empty : i < length s → getD s i 0 ≡ close sh → Opens s sh a (Ends (Past (i + 1)))
-  opened-empty h e = record { at-any = λ n. seq (to-first n) (takes (first sh n) [] [] h (first-close (getD s i 0) sh n e)) }
+  opened-empty h e =
+      record { at-any = λ n. seq (to-first n) (takes (first sh n) [] [] h (first-close (getD s i 0) sh n e)) }
 
-  to-inner : i < length s → (getD s i 0 ≡ close sh → ⊥) → (n : ℕ) → Leads s (ws ∷ first sh n ∷ []) a (before sh ++ inner sh n) i
-  to-inner h e n = seq (to-first n) (alike (first sh n ∷ []) (before sh ++ inner sh n) h (first-enters (getD s i 0) sh n e))
+  to-inner : i < length s → (getD s i 0 ≡ close sh → ⊥) → (n : ℕ)
+      → Leads s (ws ∷ first sh n ∷ []) a (before sh ++ inner sh n) i
+  to-inner h e n =
+      seq (to-first n) (alike (first sh n ∷ []) (before sh ++ inner sh n) h (first-enters (getD s i 0) sh n e))
 
-  pub opened-inner : i < length s → (getD s i 0 ≡ close sh → ⊥) → (r : Part) (n : ℕ) → r ≡ Past n → Goes s (before sh) i r → Opens s sh a (Inner n sh)
-  opened-inner h e r n q g = record { at-any = λ m. (refl, seq (to-inner h e m) (frame (inner sh m) (past (before sh) r n q g))) }
+  pub opened-inner : i < length s → (getD s i 0 ≡ close sh → ⊥) → (r : Part) (n : ℕ) → r ≡ Past n
+      → Goes s (before sh) i r → Opens s sh a (Inner n sh)
+  opened-inner h e r n q g =
+      record { at-any = λ m. (refl, seq (to-inner h e m) (frame (inner sh m) (past (before sh) r n q g))) }
 
-  pub opened-fails : i < length s → (getD s i 0 ≡ close sh → ⊥) → (r : Part) (v : Verdict) → r ≡ Fails v → Goes s (before sh) i r → Opens s sh a (Ends (Fails v))
-  opened-fails h e r v q g = record { at-any = λ m. fall (to-inner h e m) (fall-frame (inner sh m) (fell (before sh) r v q g)) }
+  pub opened-fails : i < length s → (getD s i 0 ≡ close sh → ⊥) → (r : Part) (v : Verdict) → r ≡ Fails v
+      → Goes s (before sh) i r → Opens s sh a (Ends (Fails v))
+  opened-fails h e r v q g =
+      record { at-any = λ m. fall (to-inner h e m) (fall-frame (inner sh m) (fell (before sh) r v q g)) }
 
 -- ---- a value that opens a level
 
@@ -81,14 +93,17 @@ module _ {s : List ℕ} {n i : ℕ} (sh : Shape) (h : i < length s) (o : getD s 
       let at = w .at-any (n - 1) in
       record {
         left = omega arith;
-        leads = subst (λ (x : Shape). Leads s (value n ∷ []) i (inner x (n - 1)) j) (sym (at .0)) (seq (to-opened z) (at .1));
+        leads = subst (λ (x : Shape). Leads s (value n ∷ []) i (inner x (n - 1)) j) (sym (at .0))
+            (seq (to-opened z) (at .1));
       }
 
 -- ---- behind an inner value
 
-pub next-goes : {s : List ℕ} {i : ℕ} (sh : Shape) (n : ℕ) → i < length s → getD s i 0 ≡ 44 → Leads s (next sh n ∷ []) i (ws ∷ (before sh ++ inner sh n)) (i + 1)
+pub next-goes : {s : List ℕ} {i : ℕ} (sh : Shape) (n : ℕ) → i < length s → getD s i 0 ≡ 44
+    → Leads s (next sh n ∷ []) i (ws ∷ (before sh ++ inner sh n)) (i + 1)
 next-goes {s} {i} list n h e = takes (next list n) [] (ws ∷ inner list n) h (next-comma (getD s i 0) list n e)
-next-goes {s} {i} object n h e = takes (next object n) [] (ws ∷ (before object ++ inner object n)) h (next-comma (getD s i 0) object n e)
+next-goes {s} {i} object n h e =
+    takes (next object n) [] (ws ∷ (before object ++ inner object n)) h (next-comma (getD s i 0) object n e)
 
 module _ {s : List ℕ} {sh : Shape} {a i : ℕ} (w : Done s (ws ∷ []) a i) where
   to-next : (n : ℕ) → Leads s (ws ∷ next sh n ∷ []) a (next sh n ∷ []) i
@@ -99,12 +114,16 @@ module _ {s : List ℕ} {sh : Shape} {a i : ℕ} (w : Done s (ws ∷ []) a i) wh
   follow-short h = record { at-any = λ n. fall (to-next n) (stops (next sh n) [] (omega (arith, w .high)) refl) }
 
   pub follow-close : i < length s → getD s i 0 ≡ close sh → Follows s sh a (Closed (i + 1))
-  follow-close h e = record { at-any = λ n. seq (to-next n) (takes (next sh n) [] [] h (next-close (getD s i 0) sh n e)) }
+  follow-close h e =
+      record { at-any = λ n. seq (to-next n) (takes (next sh n) [] [] h (next-close (getD s i 0) sh n e)) }
 
-  pub follow-wrong : i < length s → (getD s i 0 ≡ close sh → ⊥) → (getD s i 0 ≡ 44 → ⊥) → Follows s sh a (Stops (Breaks i))
-  follow-wrong h e f = record { at-any = λ n. fall (to-next n) (refuses (next sh n) [] h (next-not (getD s i 0) sh n e f)) }
+  pub follow-wrong : i < length s → (getD s i 0 ≡ close sh → ⊥) → (getD s i 0 ≡ 44 → ⊥)
+      → Follows s sh a (Stops (Breaks i))
+  follow-wrong h e f =
+      record { at-any = λ n. fall (to-next n) (refuses (next sh n) [] h (next-not (getD s i 0) sh n e f)) }
 
-  module _ {j : ℕ} (h : i < length s) (e : getD s i 0 ≡ 44) (x : Done s (ws ∷ []) (i + 1) j) (r : Part) (g : Goes s (before sh) j r) where
+  module _ {j : ℕ} (h : i < length s) (e : getD s i 0 ≡ 44) (x : Done s (ws ∷ []) (i + 1) j) (r : Part)
+      (g : Goes s (before sh) j r) where
     to-heading : (n : ℕ) → Leads s (ws ∷ next sh n ∷ []) a (before sh ++ inner sh n) j
     to-heading n = seq (seq (to-next n) (next-goes sh n h e)) (frame (before sh ++ inner sh n) x)
 
@@ -123,13 +142,15 @@ module _ {s : List ℕ} {sh : Shape} {a i : ℕ} (w : Done s (ws ∷ []) a i) wh
 
 -- ---- a value with inner values
 
-pub entered : (s : List ℕ) (n a : ℕ) (r : Begun) (i : ℕ) (sh : Shape) → r ≡ Inner i sh → Begins s n a r → Enters s n a sh i
+pub entered : (s : List ℕ) (n a : ℕ) (r : Begun) (i : ℕ) (sh : Shape) → r ≡ Inner i sh → Begins s n a r
+    → Enters s n a sh i
 entered s n a r i sh e g = subst (λ (q : Begun). Begins s n a q) e g
 
 pub ended : (s : List ℕ) (n a : ℕ) (r : Begun) (p : Part) → r ≡ Ends p → Begins s n a r → Goes s (value n ∷ []) a p
 ended s n a r p e g = subst (λ (q : Begun). Begins s n a q) e g
 
-module _ {s : List ℕ} {n a i m : ℕ} {sh : Shape} (w : Enters s n a sh i) (d : Done s (value (n - 1) ∷ []) i m) (q : Next) (f : Follows s sh m q) where
+module _ {s : List ℕ} {n a i m : ℕ} {sh : Shape} (w : Enters s n a sh i) (d : Done s (value (n - 1) ∷ []) i m)
+    (q : Next) (f : Follows s sh m q) where
   behind : Leads s (value n ∷ []) a (ws ∷ next sh (n - 1) ∷ []) m
   behind = seq (w .leads) (frame (ws ∷ next sh (n - 1) ∷ []) d)
 

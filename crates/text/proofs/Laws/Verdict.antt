@@ -15,8 +15,8 @@ use Rattle.text.specs.declared.scan.Verdict.the-variants.{Whole, Breaks,
 use Rattle.text.proofs.Laws.Places.{not-whole, deep-breaks}
 use Rattle.text.proofs.Laws.Live.{start, kin-start}
 use Rattle.text.proofs.Laws.Levels.{verdict-more}
-use Rattle.text.proofs.Laws.Stable.{Lives, Stops, Fate, whole, short, breaks, sinks, fate}
-use Rattle.text.proofs.Laws.Stable.{stops-inside, stops-before, stops-past}
+use Rattle.text.proofs.Laws.Stable.{Lives, Stops, Fate, whole, short, breaks, sinks, fate, stops-inside}
+use Rattle.text.proofs.Laws.Stable.{stops-before, stops-past}
 
 -- ---- texts and their beginnings
 

@@ -10,8 +10,8 @@ use native.Mathlib.Decide.{decLt}
 use borrow.Author.Tests.{le-leb, lt-leb}
 use Rattle.text.specs.Utf8.{ascii}
 use Rattle.text.specs.Strings.{Unit, plain, coded, quote, reverse-solidus, Hex, digit, lower, Char, unescaped}
-use Rattle.text.specs.Strings.{escaped, hexed, Body, end, more, High, Low, paired, Means, none, one, below}
-use Rattle.text.specs.Strings.{above, pair}
+use Rattle.text.specs.Strings.{escaped, hexed, Body, end, more, High, Low, paired, Means, none, one, below, above}
+use Rattle.text.specs.Strings.{pair}
 use Rattle.text.specs.Written.{Scalar, low, high, Scalars, hexDigit, written, writtenText}
 use Rattle.text.specs.Written as W
 use Rattle.text.specs.Decoding.{textOf}

@@ -1,4 +1,4 @@
--- The tests of Decoding on one byte: ranges, digits and letters.
+-- The tests of Decoding on one byte, for ranges, digits and letters: each picks one row of its definition.
 use mathlib.Core.Path.{_≡_, refl}
 use mathlib.Core.Bool.{Bool, true, false}
 use mathlib.Core.List.{List}
@@ -7,9 +7,11 @@ use native.Mathlib.Omega.{arith}
 use lib.Dec.{leb}
 use lib.ListN.{drop}
 use lib.Seq.{getD-drop}
-use borrow.Author.Tests.{leb-true, le-leb, lt-leb, ne-eqb}
+use borrow.Author.Tests.{leb-true, ne-eqb}
 use Rattle.text.specs.Base.{pick, In, within}
 use Rattle.text.specs.Decoding.{hexOf, codeAt, letterOf}
+use Rattle.text.proofs.Laws.Tests.{inside}
+use Rattle.text.proofs.Laws.Tests as T
 
 -- ---- from lo to hi
 
@@ -18,15 +20,11 @@ pub data Outside (lo hi b : ℕ) : Type 0 where
   over : hi < b → Outside lo hi b
 
 pub within-inside : {lo hi b : ℕ} → In lo hi b → within lo hi b ≡ true
-within-inside {lo} {hi} {b} p = simp (le-leb lo b (p .low), le-leb b hi (p .high))
+within-inside {lo} {hi} {b} p = inside lo hi b (p .low) (p .high)
 
 pub within-outside : {lo hi b : ℕ} → Outside lo hi b → within lo hi b ≡ false
-within-outside {lo} {hi} {b} (under p) = simp (lt-leb lo b p)
-within-outside {lo} {hi} {b} (over p) = rw (lt-leb b hi p) (never (leb lo b))
-  where
-    never : (t : Bool) → pick t false false ≡ false
-    never true = refl
-    never false = refl
+within-outside {lo} {hi} {b} (under p) = T.under lo hi b p
+within-outside {lo} {hi} {b} (over p) = T.over lo hi b p
 
 pub within-inv : (lo hi b : ℕ) → within lo hi b ≡ true → In lo hi b
 within-inv lo hi b e =

@@ -10,14 +10,14 @@ use lib.Dec.{eqb}
 use lib.ListN.{length, getD, take, drop, set, length-append, length-drop, drop-of-length-le}
 use lib.Seq.{take-all, drop-cons}
 use borrow.Author.Tests.{le-leb, lt-leb, eq-eqb, ne-eqb}
-use Rattle.text.specs.declared.strings.Step.{Step}
-use Rattle.text.specs.declared.strings.Step.the-variants as S
-use Rattle.text.specs.declared.strings.Decoded.the-variants.{Count, Lone, Short}
 use Rattle.text.specs.Base.{pick}
 use Rattle.text.specs.Putting.{lay}
 use Rattle.text.specs.Decoding.{Text, whole, lone, ahead, unitsBehind, meaning, textOf, decodedOf, equal}
 use Rattle.text.specs.Decoding.{sameText, Decodes}
 use Rattle.text.specs.Steps.{stepped, Past}
+use Rattle.text.specs.declared.strings.Step.{Step}
+use Rattle.text.specs.declared.strings.Step.the-variants as S
+use Rattle.text.specs.declared.strings.Decoded.the-variants.{Count, Lone, Short}
 use Rattle.text.proofs.Laws.Putting.{lay-length, lay-snoc}
 use Rattle.text.proofs.Laws.Strings.Reading.{read-sequence, sequence-one, text-plain}
 

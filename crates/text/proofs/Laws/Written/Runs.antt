@@ -1,4 +1,4 @@
--- What the loops of `fits` and `write_text` keep.
+-- What the loops of `fits` and `write_text` keep: what is written of all is what is written so far and of the rest.
 use mathlib.Core.Path.{_≡_, refl, sym, ap, _∙_}
 use mathlib.Core.Bool.{true, false}
 use mathlib.Core.List.{List, [], _∷_, _++_, append-nil, append-assoc}
@@ -9,9 +9,9 @@ use lib.Dec.{leb}
 use lib.ListN.{length, getD, take, drop, length-append, take-append-drop, drop-of-length-le}
 use lib.Seq.{take-all, take-suc, drop-cons}
 use borrow.Author.Tests.{le-leb, lt-leb}
-use Rattle.text.specs.declared.written.Written.the-variants.{Count, Short}
 use Rattle.text.specs.Putting.{putAt}
 use Rattle.text.specs.Written.{written, writtenText, writeOf}
+use Rattle.text.specs.declared.written.Written.the-variants.{Count, Short}
 use Rattle.text.proofs.Laws.Putting.{put-fit, put-none, put-append, put-length}
 
 pub text-append : (xs ys : List ℕ) → writtenText (xs ++ ys) ≡ writtenText xs ++ writtenText ys

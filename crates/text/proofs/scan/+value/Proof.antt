@@ -1,6 +1,6 @@
--- The first inner value takes one of the levels left, so `left` falls at each call; the loop's place is always that of an
--- inner value owed.
-use mathlib.Core.List.{List, [], _∷_}
+-- The first inner value takes one of the levels left, so `left` falls at each call; the loop's place is always that
+-- of an inner value owed.
+use mathlib.Core.List.{[], _∷_}
 use Prim.Native.Nat.{ℕ, _-_, _<_}
 use native.Mathlib.Omega.{arith}
 use borrow.Author.Needs.{needs}
@@ -53,7 +53,9 @@ sub-value : (t : ℕ) → value-lts.Need-sub-value (calls t) (value-at t) value.
 sub-value t c = omega (arith, c .loop .inv .left)
 
 value-requires : (t : ℕ) → value-lts.Need-value-requires (calls t) (value-at t) value.Post Inv-loop μ-loop
-value-requires t c κs = (omega (arith, c .before .before .before .before .before .before .pre .0, c .loop .inv .left), c .loop .inv .leads .high)
+value-requires t c κs =
+    let pre = c .before .before .before .before .before .before .pre in
+    (omega (arith, pre .0, c .loop .inv .left), c .loop .inv .leads .high)
 
 enum-known-r : (t : ℕ) → value-lts.Need-enum-known-r (calls t) (value-at t) value.Post Inv-loop μ-loop
 enum-known-r t c = search needs
@@ -62,31 +64,65 @@ enum-told : (t : ℕ) → value-lts.Need-enum-told (calls t) (value-at t) value.
 enum-told t c = search needs
 
 returns : (t : ℕ) → value-lts.Need-returns (calls t) (value-at t) value.Post Inv-loop μ-loop
-returns t c = failed (valued (c .before .before .before .before .before .before .before .before .before .args .left - 1) ∷ []) (ws ∷ next (c .before .before .before .before .before .b2 .given .0 .1 .0) (c .before .before .before .before .before .before .before .before .before .args .left - 1) ∷ []) _ _ (c .enum-told .given .1) (c .before .before .before .loop .inv .leads) (c .before .before .value .ensures)
+returns t c =
+    let args = c .before .before .before .before .before .before .before .before .before .args in
+    let b2 = c .before .before .before .before .before .b2 in
+    let loop = c .before .before .before .loop in
+    failed (valued (args .left - 1) ∷ []) (ws ∷ next (b2 .given .0 .1 .0) (args .left - 1) ∷ []) _ _
+    (c .enum-told .given .1) (loop .inv .leads) (c .before .before .value .ensures)
 
 follow-requires : (t : ℕ) → value-lts.Need-follow-requires (calls t) (value-at t) value.Post Inv-loop μ-loop
-follow-requires t c κs = past (valued (c .before .before .before .before .before .before .before .before .before .before .args .left - 1) ∷ []) _ _ (c .before .r .given .1) (c .before .before .before .value .ensures) .high
+follow-requires t c κs =
+    let args = c .before .before .before .before .before .before .before .before .before .before .args in
+    let after-value = c .before .before .before .value .ensures in
+    past (valued (args .left - 1) ∷ []) _ _ (c .before .r .given .1) after-value .high
 
 enum-known-q : (t : ℕ) → value-lts.Need-enum-known-q (calls t) (value-at t) value.Post Inv-loop μ-loop
 enum-known-q t c = search needs
 
 loop-less : (t : ℕ) → value-lts.Need-loop-less (calls t) (value-at t) value.Post Inv-loop μ-loop
-loop-less t c = omega (arith, inner-later (c .before .before .before .before .before .before .before .before .loop .inv) (past (valued (c .before .before .before .before .before .before .before .before .before .before .before .before .before .before .args .left - 1) ∷ []) _ _ (c .before .before .before .before .before .r .given .1) (c .before .before .before .before .before .before .before .value .ensures)) _ (c .before .before .before .follow .ensures) _ (c .before .q .given .1), inner-more (c .before .before .before .before .before .before .before .before .loop .inv) (past (valued (c .before .before .before .before .before .before .before .before .before .before .before .before .before .before .args .left - 1) ∷ []) _ _ (c .before .before .before .before .before .r .given .1) (c .before .before .before .before .before .before .before .value .ensures)) _ (c .before .before .before .follow .ensures) _ (c .before .q .given .1) .leads .high)
+loop-less t c =
+    let turn = c .before .before .before .before .before .before .before .before in
+    let left = turn .before .before .before .before .before .before .args .left in
+    let read = c .before .before .before .before .before .before .before .value .ensures in
+    let after-follow = c .before .before .before .follow .ensures in
+    let inner = past (valued (left - 1) ∷ []) _ _ (c .before .before .before .before .before .r .given .1) read in
+    let q-is = c .before .q .given .1 in
+    let later = inner-later (turn .loop .inv) inner _ after-follow _ q-is in
+    omega (arith, later, inner-more (turn .loop .inv) inner _ after-follow _ q-is .leads .high)
 
 loop-again : (t : ℕ) → value-lts.Need-loop-again (calls t) (value-at t) value.Post Inv-loop μ-loop
-loop-again t c = inner-more (c .before .before .before .before .before .before .before .before .loop .inv) (past (valued (c .before .before .before .before .before .before .before .before .before .before .before .before .before .before .args .left - 1) ∷ []) _ _ (c .before .before .before .before .before .r .given .1) (c .before .before .before .before .before .before .before .value .ensures)) _ (c .before .before .before .follow .ensures) _ (c .before .q .given .1)
+loop-again t c =
+    let turn = c .before .before .before .before .before .before .before .before in
+    let left = turn .before .before .before .before .before .before .args .left in
+    let read = c .before .before .before .before .before .before .before .value .ensures in
+    let after-follow = c .before .before .before .follow .ensures in
+    let inner = past (valued (left - 1) ∷ []) _ _ (c .before .before .before .before .before .r .given .1) read in
+    inner-more (turn .loop .inv) inner _ after-follow _ (c .before .q .given .1)
 
 enum-known-q-2 : (t : ℕ) → value-lts.Need-enum-known-q-2 (calls t) (value-at t) value.Post Inv-loop μ-loop
 enum-known-q-2 t c = search needs
 
 returns-2 : (t : ℕ) → value-lts.Need-returns-2 (calls t) (value-at t) value.Post Inv-loop μ-loop
-returns-2 t c = inner-closed (c .before .before .before .before .before .before .before .before .loop .inv) (past (valued (c .before .before .before .before .before .before .before .before .before .before .before .before .before .before .args .left - 1) ∷ []) _ _ (c .before .before .before .before .before .r .given .1) (c .before .before .before .before .before .before .before .value .ensures)) _ (c .before .before .before .follow .ensures) _ (c .before .q2 .given .1)
+returns-2 t c =
+    let turn = c .before .before .before .before .before .before .before .before in
+    let left = turn .before .before .before .before .before .before .args .left in
+    let read = c .before .before .before .before .before .before .before .value .ensures in
+    let after-follow = c .before .before .before .follow .ensures in
+    let inner = past (valued (left - 1) ∷ []) _ _ (c .before .before .before .before .before .r .given .1) read in
+    inner-closed (turn .loop .inv) inner _ after-follow _ (c .before .q2 .given .1)
 
 enum-known-q-3 : (t : ℕ) → value-lts.Need-enum-known-q-3 (calls t) (value-at t) value.Post Inv-loop μ-loop
 enum-known-q-3 t c = search needs
 
 returns-3 : (t : ℕ) → value-lts.Need-returns-3 (calls t) (value-at t) value.Post Inv-loop μ-loop
-returns-3 t c = inner-stops (c .before .before .before .before .before .before .before .before .loop .inv) (past (valued (c .before .before .before .before .before .before .before .before .before .before .before .before .before .before .args .left - 1) ∷ []) _ _ (c .before .before .before .before .before .r .given .1) (c .before .before .before .before .before .before .before .value .ensures)) _ (c .before .before .before .follow .ensures) _ (c .before .q3 .given .1)
+returns-3 t c =
+    let turn = c .before .before .before .before .before .before .before .before in
+    let left = turn .before .before .before .before .before .before .args .left in
+    let read = c .before .before .before .before .before .before .before .value .ensures in
+    let after-follow = c .before .before .before .follow .ensures in
+    let inner = past (valued (left - 1) ∷ []) _ _ (c .before .before .before .before .before .r .given .1) read in
+    inner-stops (turn .loop .inv) inner _ after-follow _ (c .before .q3 .given .1)
 
 returns-4 : (t : ℕ) → value-lts.Need-returns-4 (calls t) (value-at t) value.Post Inv-loop μ-loop
 returns-4 t c = ended _ _ _ _ _ (c .before .b .given .1) (c .before .before .before .begin .ensures)

@@ -1,18 +1,18 @@
 -- One law for each kind of first byte; what is owed behind it is what the call reads.
-use mathlib.Core.Path.{_≡_, refl, sym, ap, _∙_}
-use mathlib.Core.List.{List, [], _∷_, map}
-use Prim.Native.Nat.{ℕ, _≤_, _-_, _+_}
+use mathlib.Core.Path.{refl}
+use mathlib.Core.List.{[], _∷_}
 use native.Mathlib.Omega.{arith}
-use lib.ListN.{length, getD, drop, replicate}
 use mathlib.Core.Logic.{inl, inr}
-use Rattle.text.specs.Machine.{byte, text, integer, value, optional}
+use Rattle.text.specs.Machine.{integer, value, optional}
 use Rattle.text.specs.declared.scan.Shape.the-variants.{List as list, Object as object}
-use Rattle.text.proofs.Laws.Reading.{goes-seq, takes, refuses, stops, alike}
-use Rattle.text.proofs.Laws.Moves.{value-text, value-minus, value-digit, value-false, value-null, value-true, value-none, same-move}
-use Rattle.text.proofs.Laws.Values.{begins-deep, begins-opened}
 use borrow.Author.Needs.{needs}
 use Rattle.text.proofs.scan.begin.Statement.{statement}
 use Rattle.text.proofs.scan.begin.Tie as tie
+use Rattle.text.proofs.Laws.Reading.{goes-seq, takes, refuses, stops, alike}
+use Rattle.text.proofs.Laws.Moves.Values.{value-text, value-minus, value-digit, value-false, value-null}
+use Rattle.text.proofs.Laws.Moves.Values.{value-true, value-none}
+use Rattle.text.proofs.Laws.Moves.Owing.{same-move}
+use Rattle.text.proofs.Laws.Values.{begins-deep, begins-opened}
 
 returns : tie.Need-returns
 unfolding optional
@@ -64,34 +64,59 @@ unsigned-requires-2 : tie.Need-unsigned-requires-2
 unsigned-requires-2 c κs = search needs
 
 returns-4 : tie.Need-returns-4
-returns-4 c = goes-seq (c .string .result) (takes (value _) [] (text ∷ []) (c .before .before .before .if1 .left) (value-text _ _ (c .before .match .keys1))) (c .string .ensures)
+returns-4 c =
+    let e = value-text _ _ (c .before .match .keys1) in
+    goes-seq (c .string .result) (takes (value _) [] _ (omega arith) e) (c .string .ensures)
 
 returns-5 : tie.Need-returns-5
-returns-5 c = goes-seq (c .unsigned .result) (takes (value _) [] (integer ∷ []) (c .before .before .before .if1 .left) (value-minus _ _ (c .before .match .keys2))) (c .unsigned .ensures)
+returns-5 c =
+    let e = value-minus _ _ (c .before .match .keys2) in
+    goes-seq (c .unsigned .result) (takes (value _) [] _ (omega arith) e) (c .unsigned .ensures)
 
 returns-6 : tie.Need-returns-6
-returns-6 c = begins-opened list (c .before .before .before .before .if1 .left) (c .before .before .match .keys3) (c .opened .result) (c .before .if2 .left) (c .opened .ensures)
+returns-6 c =
+    let if1 = c .before .before .before .before .if1 in
+    begins-opened list (if1 .left) (c .before .before .match .keys3) _ (c .before .if2 .left) (c .opened .ensures)
 
 returns-7 : tie.Need-returns-7
-returns-7 c = goes-seq (c .word .result) (takes (value _) [] (map byte (97 ∷ 108 ∷ 115 ∷ 101 ∷ [])) (c .before .before .before .before .if1 .left) (value-false _ _ (c .before .before .match .keys4))) (c .word .ensures)
+returns-7 c =
+    let e = value-false _ _ (c .before .before .match .keys4) in
+    goes-seq (c .word .result) (takes (value _) [] _ (omega arith) e) (c .word .ensures)
 
 returns-8 : tie.Need-returns-8
-returns-8 c = goes-seq (c .word2 .result) (takes (value _) [] (map byte (117 ∷ 108 ∷ 108 ∷ [])) (c .before .before .before .before .if1 .left) (value-null _ _ (c .before .before .match .keys5))) (c .word2 .ensures)
+returns-8 c =
+    let e = value-null _ _ (c .before .before .match .keys5) in
+    goes-seq (c .word2 .result) (takes (value _) [] _ (omega arith) e) (c .word2 .ensures)
 
 returns-9 : tie.Need-returns-9
-returns-9 c = goes-seq (c .word3 .result) (takes (value _) [] (map byte (114 ∷ 117 ∷ 101 ∷ [])) (c .before .before .before .before .if1 .left) (value-true _ _ (c .before .before .match .keys6))) (c .word3 .ensures)
+returns-9 c =
+    let e = value-true _ _ (c .before .before .match .keys6) in
+    goes-seq (c .word3 .result) (takes (value _) [] _ (omega arith) e) (c .word3 .ensures)
 
 returns-10 : tie.Need-returns-10
-returns-10 c = begins-opened object (c .before .before .before .before .if1 .left) (c .before .before .match .keys7) (c .opened2 .result) (c .before .if3 .left) (c .opened2 .ensures)
+returns-10 c =
+    let if1 = c .before .before .before .before .if1 in
+    begins-opened object (if1 .left) (c .before .before .match .keys7) _ (c .before .if3 .left) (c .opened2 .ensures)
 
 returns-11 : tie.Need-returns-11
-returns-11 c = goes-seq (c .unsigned2 .result) (alike (value _ ∷ []) (integer ∷ []) (c .before .before .before .before .before .if1 .left) (same-move _ (value _) integer (value-digit _ _ (c .before .before .if4 .left) (c .before .if5 .taken)))) (c .unsigned2 .ensures)
+returns-11 c =
+    let if1 = c .before .before .before .before .before .if1 in
+    let e = same-move _ (value _) integer (value-digit _ _ (c .before .before .if4 .left) (c .before .if5 .taken)) in
+    goes-seq (c .unsigned2 .result) (alike (value _ ∷ []) (integer ∷ []) (if1 .left) e) (c .unsigned2 .ensures)
 
 returns-12 : tie.Need-returns-12
-returns-12 c = refuses (value _) [] (c .before .before .before .if1 .left) (value-none _ _ (c .before .match .rest .0 .0 .0 .0 .0 .0 .1) (c .before .match .rest .0 .0 .0 .0 .0 .1) (inl (c .if4 .taken)) (c .before .match .rest .0 .0 .0 .0 .1) (c .before .match .rest .0 .0 .0 .1) (c .before .match .rest .0 .0 .1) (c .before .match .rest .0 .1) (c .before .match .rest .1))
+returns-12 c =
+    let r = c .before .match .rest in
+    refuses (value _) [] (c .before .before .before .if1 .left)
+    (value-none _ _ (r .0 .0 .0 .0 .0 .0 .1) (r .0 .0 .0 .0 .0 .1) (inl (c .if4 .taken)) (r .0 .0 .0 .0 .1)
+    (r .0 .0 .0 .1) (r .0 .0 .1) (r .0 .1) (r .1))
 
 returns-13 : tie.Need-returns-13
-returns-13 c = refuses (value _) [] (c .before .before .before .before .if1 .left) (value-none _ _ (c .before .before .match .rest .0 .0 .0 .0 .0 .0 .1) (c .before .before .match .rest .0 .0 .0 .0 .0 .1) (inr (c .if5 .left)) (c .before .before .match .rest .0 .0 .0 .0 .1) (c .before .before .match .rest .0 .0 .0 .1) (c .before .before .match .rest .0 .0 .1) (c .before .before .match .rest .0 .1) (c .before .before .match .rest .1))
+returns-13 c =
+    let r = c .before .before .match .rest in
+    refuses (value _) [] (c .before .before .before .before .if1 .left)
+    (value-none _ _ (r .0 .0 .0 .0 .0 .0 .1) (r .0 .0 .0 .0 .0 .1) (inr (c .if5 .left)) (r .0 .0 .0 .0 .1)
+    (r .0 .0 .0 .1) (r .0 .0 .1) (r .0 .1) (r .1))
 
 pub begin-spec : {M : Type 1} → statement M
 begin-spec =

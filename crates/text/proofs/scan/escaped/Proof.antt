@@ -1,16 +1,14 @@
 -- A letter is taken by the escape itself, `u` owes four digits.
-use mathlib.Core.Path.{_≡_, refl}
-use mathlib.Core.List.{List, [], _∷_, map}
-use Prim.Native.Nat.{ℕ, _≤_, _-_, _+_}
+use mathlib.Core.Path.{refl}
+use mathlib.Core.List.{[]}
 use native.Mathlib.Omega.{arith}
-use lib.ListN.{length, getD, drop, replicate}
-use Rattle.text.specs.Reading.{Leads}
+use lib.ListN.{replicate}
 use Rattle.text.specs.Machine.{hex, escape, optional}
-use Rattle.text.proofs.Laws.Reading.{goes-seq, takes, refuses, stops}
-use Rattle.text.proofs.Laws.Moves.{escape-letter, escape-hex, escape-not}
 use borrow.Author.Needs.{needs}
 use Rattle.text.proofs.scan.escaped.Statement.{statement}
 use Rattle.text.proofs.scan.escaped.Tie as tie
+use Rattle.text.proofs.Laws.Reading.{goes-seq, takes, refuses, stops}
+use Rattle.text.proofs.Laws.Moves.Strings.{escape-letter, escape-hex, escape-not}
 
 returns : tie.Need-returns
 unfolding optional
@@ -32,7 +30,10 @@ returns-2 : tie.Need-returns-2
 returns-2 c = takes escape [] [] (c .before .before .if1 .left) (escape-letter _ (c .match .keys1))
 
 returns-3 : tie.Need-returns-3
-returns-3 c = goes-seq (c .four-hex .result) (takes escape [] (replicate 4 hex) (c .before .before .before .if1 .left) (escape-hex _ (c .before .match .keys2))) (c .four-hex .ensures)
+returns-3 c =
+    let if1 = c .before .before .before .if1 in
+    goes-seq (c .four-hex .result)
+    (takes escape [] (replicate 4 hex) (if1 .left) (escape-hex _ (c .before .match .keys2))) (c .four-hex .ensures)
 
 returns-4 : tie.Need-returns-4
 returns-4 c = refuses escape [] (c .before .before .if1 .left) (escape-not _ (c .match .rest .0 .1) (c .match .rest .1))

@@ -1,9 +1,5 @@
 -- Behind the white space stands the closing byte, or a comma and what leads to another inner value.
-use mathlib.Core.Path.{_≡_, refl, sym, ap, _∙_}
-use mathlib.Core.List.{List, [], _∷_, map}
-use Prim.Native.Nat.{ℕ, _≤_, _-_, _+_}
-use native.Mathlib.Omega.{arith}
-use lib.ListN.{length, getD, drop, replicate}
+use mathlib.Core.Path.{sym, _∙_}
 use Rattle.text.proofs.Laws.Values.{follow-short, follow-close, follow-wrong, follow-inner, follow-fails}
 use borrow.Author.Needs.{needs}
 use Rattle.text.proofs.scan.follow.Statement.{statement}
@@ -25,10 +21,17 @@ add-t15 : tie.Need-add-t15
 add-t15 c = search needs
 
 returns-2 : tie.Need-returns-2
-returns-2 c = follow-close (c .before .before .before .before .space .ensures) (c .before .before .before .if1 .left) (c .if2 .taken ∙ c .before .closer .ensures)
+returns-2 c =
+    let after-space = c .before .before .before .before .space .ensures in
+    let if1 = c .before .before .before .if1 in
+    follow-close after-space (if1 .left) (c .if2 .taken ∙ c .before .closer .ensures)
 
 returns-3 : tie.Need-returns-3
-returns-3 c = follow-wrong (c .before .before .before .before .before .space .ensures) (c .before .before .before .before .if1 .left) (λ e. c .before .if2 .left (e ∙ sym (c .before .before .closer .ensures))) (c .if3 .taken)
+returns-3 c =
+    let after-space = c .before .before .before .before .before .space .ensures in
+    let if1 = c .before .before .before .before .if1 in
+    follow-wrong after-space (if1 .left) (λ e. c .before .if2 .left (e ∙ sym (c .before .before .closer .ensures)))
+    (c .if3 .taken)
 
 add-space : tie.Need-add-space
 add-space c = search needs
@@ -46,10 +49,22 @@ enum-known-r-2 : tie.Need-enum-known-r-2
 enum-known-r-2 c = search needs
 
 returns-4 : tie.Need-returns-4
-returns-4 c = follow-inner (c .before .before .before .before .before .before .before .before .before .before .space .ensures) (c .before .before .before .before .before .before .before .before .before .if1 .left) (c .before .before .before .before .before .if3 .left) (c .before .before .before .before .space2 .ensures) _ (c .before .before .before .heading .ensures) _ (c .before .r .given .1)
+returns-4 c =
+    let comma = c .before .before .before .before .before .if3 in
+    let read = c .before .before .before .before .before .before .before .before .before in
+    let after-space = read .before .space .ensures in
+    let after-space2 = c .before .before .before .before .space2 .ensures in
+    let after-heading = c .before .before .before .heading .ensures in
+    follow-inner after-space (read .if1 .left) (comma .left) after-space2 _ after-heading _ (c .before .r .given .1)
 
 returns-5 : tie.Need-returns-5
-returns-5 c = follow-fails (c .before .before .before .before .before .before .before .before .before .before .space .ensures) (c .before .before .before .before .before .before .before .before .before .if1 .left) (c .before .before .before .before .before .if3 .left) (c .before .before .before .before .space2 .ensures) _ (c .before .before .before .heading .ensures) _ (c .before .r2 .given .1)
+returns-5 c =
+    let comma = c .before .before .before .before .before .if3 in
+    let read = c .before .before .before .before .before .before .before .before .before in
+    let after-space = read .before .space .ensures in
+    let after-space2 = c .before .before .before .before .space2 .ensures in
+    let after-heading = c .before .before .before .heading .ensures in
+    follow-fails after-space (read .if1 .left) (comma .left) after-space2 _ after-heading _ (c .before .r2 .given .1)
 
 pub follow-spec : {M : Type 1} → statement M
 follow-spec =

@@ -20,7 +20,9 @@ shared-slice-read-if2 : tie.Need-shared-slice-read-if2
 shared-slice-read-if2 c = search needs
 
 returns-3 : tie.Need-returns-3
-returns-3 c = before-wrong _ _ (c .before .before .before .enum-told .given .1) (c .before .before .if1 .left) (c .if2 .taken)
+returns-3 c =
+    let told-is = c .before .before .before .enum-told .given .1 in
+    before-wrong _ _ told-is (c .before .before .if1 .left) (c .if2 .taken)
 
 add-name : tie.Need-add-name
 add-name c = search needs
@@ -29,7 +31,10 @@ name-requires : tie.Need-name-requires
 name-requires c κs = search needs
 
 returns-4 : tie.Need-returns-4
-returns-4 c = before-name _ _ (c .before .before .before .before .enum-told .given .1) (c .before .before .before .if1 .left) (c .before .if2 .left) (c .name .result) (c .name .ensures)
+returns-4 c =
+    let told-is = c .before .before .before .before .enum-told .given .1 in
+    let if1 = c .before .before .before .if1 in
+    before-name _ _ told-is (if1 .left) (c .before .if2 .left) (c .name .result) (c .name .ensures)
 
 pub heading-spec : {M : Type 1} → statement M
 heading-spec =

@@ -1,35 +1,43 @@
 -- The byte due stands behind the white space, or the text breaks there.
-use mathlib.Core.Path.{_≡_, refl}
-use mathlib.Core.List.{List, [], _∷_, map}
-use Prim.Native.Nat.{ℕ, _≤_, _-_, _+_}
+use mathlib.Core.Path.{refl}
+use mathlib.Core.List.{[], _∷_}
 use native.Mathlib.Omega.{arith}
-use lib.ListN.{length, getD, drop, replicate}
-use Rattle.text.specs.Reading.{Leads}
-use Rattle.text.specs.Machine.{ws, byte, optional}
-use Rattle.text.proofs.Laws.Reading.{seq, frame, fall, takes, refuses, stops}
-use Rattle.text.proofs.Laws.Moves.{byte-is, byte-not}
+use Rattle.text.specs.Machine.{byte, optional}
 use borrow.Author.Needs.{needs}
 use Rattle.text.proofs.scan.mark.Statement.{statement}
 use Rattle.text.proofs.scan.mark.Tie as tie
+use Rattle.text.proofs.Laws.Reading.{seq, frame, fall, takes, refuses, stops}
+use Rattle.text.proofs.Laws.Moves.Bytes.{byte-is, byte-not}
 
 space-requires : tie.Need-space-requires
 space-requires c κs = search needs
 
 returns : tie.Need-returns
 unfolding optional
-returns c = fall (frame (byte (c .before .before .before .args .x) ∷ []) (c .before .space .ensures)) (stops (byte _) [] (omega (arith, c .before .space .ensures .high)) refl)
+returns c =
+    let args = c .before .before .before .args in
+    fall (frame (byte (args .x) ∷ []) (c .before .space .ensures))
+    (stops (byte _) [] (omega (arith, c .before .space .ensures .high)) refl)
 
 shared-slice-read-if2 : tie.Need-shared-slice-read-if2
 shared-slice-read-if2 c = search needs
 
 returns-2 : tie.Need-returns-2
-returns-2 c = fall (frame (byte (c .before .before .before .before .before .args .x) ∷ []) (c .before .before .before .space .ensures)) (refuses (byte _) [] (c .before .before .if1 .left) (byte-not _ _ (c .if2 .taken)))
+returns-2 c =
+    let args = c .before .before .before .before .before .args in
+    let after-space = c .before .before .before .space .ensures in
+    fall (frame (byte (args .x) ∷ []) after-space)
+    (refuses (byte _) [] (c .before .before .if1 .left) (byte-not _ _ (c .if2 .taken)))
 
 add-t5 : tie.Need-add-t5
 add-t5 c = search needs
 
 returns-3 : tie.Need-returns-3
-returns-3 c = seq (frame (byte (c .before .before .before .before .before .args .x) ∷ []) (c .before .before .before .space .ensures)) (takes (byte _) [] [] (c .before .before .if1 .left) (byte-is _ _ (c .if2 .left)))
+returns-3 c =
+    let args = c .before .before .before .before .before .args in
+    let after-space = c .before .before .before .space .ensures in
+    seq (frame (byte (args .x) ∷ []) after-space)
+    (takes (byte _) [] [] (c .before .before .if1 .left) (byte-is _ _ (c .if2 .left)))
 
 pub mark-spec : {M : Type 1} → statement M
 mark-spec =

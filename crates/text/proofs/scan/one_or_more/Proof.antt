@@ -1,16 +1,13 @@
 -- The first digit is due, those behind it are not.
-use mathlib.Core.Path.{_≡_, refl}
-use mathlib.Core.List.{List, [], _∷_, map}
-use Prim.Native.Nat.{ℕ, _≤_, _-_, _+_}
+use mathlib.Core.Path.{refl}
+use mathlib.Core.List.{[], _∷_}
 use native.Mathlib.Omega.{arith}
-use lib.ListN.{length, getD, drop, replicate}
-use Rattle.text.specs.Reading.{Leads}
 use Rattle.text.specs.Machine.{digit, digits, optional}
-use Rattle.text.proofs.Laws.Reading.{seq, takes, refuses, stops}
-use Rattle.text.proofs.Laws.Moves.{digit-is, digit-under, digit-over}
 use borrow.Author.Needs.{needs}
 use Rattle.text.proofs.scan.one_or_more.Statement.{statement}
 use Rattle.text.proofs.scan.one_or_more.Tie as tie
+use Rattle.text.proofs.Laws.Reading.{seq, takes, refuses, stops}
+use Rattle.text.proofs.Laws.Moves.Numbers.{digit-is, digit-under, digit-over}
 
 returns : tie.Need-returns
 unfolding optional
@@ -26,7 +23,10 @@ some-digits-requires : tie.Need-some-digits-requires
 some-digits-requires c κs = search needs
 
 returns-2 : tie.Need-returns-2
-returns-2 c = seq (takes digit (digits ∷ []) [] (c .before .before .before .before .if1 .left) (digit-is _ (c .before .before .if2 .left) (c .before .if3 .taken))) (c .some-digits .ensures)
+returns-2 c =
+    let if1 = c .before .before .before .before .if1 in
+    seq (takes digit (digits ∷ []) [] (if1 .left) (digit-is _ (c .before .before .if2 .left) (c .before .if3 .taken)))
+    (c .some-digits .ensures)
 
 returns-3 : tie.Need-returns-3
 returns-3 c = refuses digit (digits ∷ []) (c .before .before .if1 .left) (digit-under _ (c .if2 .taken))

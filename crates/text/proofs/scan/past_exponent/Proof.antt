@@ -1,16 +1,13 @@
 -- An e owes a sign or none and a digit or more; before any other byte there is no exponent.
-use mathlib.Core.Path.{_≡_, refl}
-use mathlib.Core.List.{List, [], _∷_, map}
-use Prim.Native.Nat.{ℕ, _≤_, _-_, _+_}
+use mathlib.Core.Path.{refl}
+use mathlib.Core.List.{[], _∷_}
 use native.Mathlib.Omega.{arith}
-use lib.ListN.{length, getD, drop, replicate}
-use Rattle.text.specs.Reading.{Leads}
 use Rattle.text.specs.Machine.{sign, digit, digits, exponent, optional}
-use Rattle.text.proofs.Laws.Reading.{seq, frame, goes-seq, takes, passes, skips}
-use Rattle.text.proofs.Laws.Moves.{exponent-is, exponent-not}
 use borrow.Author.Needs.{needs}
 use Rattle.text.proofs.scan.past_exponent.Statement.{statement}
 use Rattle.text.proofs.scan.past_exponent.Tie as tie
+use Rattle.text.proofs.Laws.Reading.{seq, frame, goes-seq, takes, passes, skips}
+use Rattle.text.proofs.Laws.Moves.Numbers.{exponent-is, exponent-not}
 
 returns : tie.Need-returns
 unfolding optional
@@ -29,9 +26,13 @@ one-or-more-requires : tie.Need-one-or-more-requires
 one-or-more-requires c κs = c .past-sign .ensures .high
 
 returns-2 : tie.Need-returns-2
-returns-2 c = goes-seq (c .one-or-more .result)
-    (seq (takes exponent [] (sign ∷ digit ∷ digits ∷ []) (c .before .before .before .before .if1 .left) (exponent-is _ (c .before .before .match .keys1))) (frame (digit ∷ digits ∷ []) (c .before .past-sign .ensures)))
-    (c .one-or-more .ensures)
+returns-2 c =
+    let if1 = c .before .before .before .before .if1 in
+    goes-seq (c .one-or-more .result)
+    (seq
+    (takes exponent [] (sign ∷ digit ∷ digits ∷ []) (if1 .left)
+    (exponent-is _ (c .before .before .match .keys1)))
+    (frame (digit ∷ digits ∷ []) (c .before .past-sign .ensures))) (c .one-or-more .ensures)
 
 returns-3 : tie.Need-returns-3
 returns-3 c = passes exponent [] (c .before .before .if1 .left) (exponent-not _ (c .match .rest .1))

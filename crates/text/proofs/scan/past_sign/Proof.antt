@@ -1,17 +1,13 @@
 -- The item takes a sign, and is done before any other byte and at the end.
-use mathlib.Core.Path.{_≡_, refl}
-use mathlib.Core.List.{List, [], _∷_, map}
-use Prim.Native.Nat.{ℕ, _≤_, _-_, _+_}
+use mathlib.Core.Path.{refl}
+use mathlib.Core.List.{[]}
 use native.Mathlib.Omega.{arith}
-use lib.ListN.{length, getD, drop, replicate}
-use mathlib.Core.Logic.{⊎-elim}
-use Rattle.text.specs.Reading.{Leads}
 use Rattle.text.specs.Machine.{sign, optional}
-use Rattle.text.proofs.Laws.Reading.{takes, passes, skips}
-use Rattle.text.proofs.Laws.Moves.{sign-is, sign-not}
 use borrow.Author.Needs.{needs}
 use Rattle.text.proofs.scan.past_sign.Statement.{statement}
 use Rattle.text.proofs.scan.past_sign.Tie as tie
+use Rattle.text.proofs.Laws.Reading.{takes, passes, skips}
+use Rattle.text.proofs.Laws.Moves.Numbers.{sign-is, sign-not}
 
 returns : tie.Need-returns
 unfolding optional

@@ -1,6 +1,5 @@
 -- The whole text is white space, a value and white space again, and nothing more.
 use mathlib.Core.List.{[], _∷_}
-use Prim.Native.Nat.{_≤_}
 use native.Mathlib.Omega.{arith}
 use Rattle.text.specs.Json.{levels}
 use Rattle.text.specs.Machine.{value}
@@ -20,19 +19,32 @@ enum-known-r : tie.Need-enum-known-r
 enum-known-r c = search needs
 
 space-requires-2 : tie.Need-space-requires-2
-space-requires-2 c κs = past (value levels ∷ []) _ _ (c .before .r .given .1) (c .before .before .before .value .ensures) .high
+space-requires-2 c κs =
+    let after-value = c .before .before .before .value .ensures in
+    past (value levels ∷ []) _ _ (c .before .r .given .1) after-value .high
 
 returns : tie.Need-returns
-returns c = verdict-breaks (c .before .before .before .before .before .before .space .ensures) _ (c .before .before .before .r .given .1) (c .before .before .before .before .before .value .ensures) (c .before .space2 .ensures) (c .if1 .taken)
+returns c =
+    let after-space = c .before .before .before .before .before .before .space .ensures in
+    let after-value = c .before .before .before .before .before .value .ensures in
+    let r-is = c .before .before .before .r .given .1 in
+    verdict-breaks after-space _ r-is after-value (c .before .space2 .ensures) (c .if1 .taken)
 
 enum-known-r-2 : tie.Need-enum-known-r-2
 enum-known-r-2 c = search needs
 
 returns-2 : tie.Need-returns-2
-returns-2 c = verdict-whole (c .before .before .before .before .before .before .space .ensures) _ (c .before .before .before .r .given .1) (c .before .before .before .before .before .value .ensures) (c .before .space2 .ensures) (c .if1 .left)
+returns-2 c =
+    let after-space = c .before .before .before .before .before .before .space .ensures in
+    let after-value = c .before .before .before .before .before .value .ensures in
+    let r-is = c .before .before .before .r .given .1 in
+    verdict-whole after-space _ r-is after-value (c .before .space2 .ensures) (c .if1 .left)
 
 returns-3 : tie.Need-returns-3
-returns-3 c = verdict-fails (c .before .before .before .before .space .ensures) _ _ (c .before .r2 .given .1) (c .before .before .before .value .ensures)
+returns-3 c =
+    let after-space = c .before .before .before .before .space .ensures in
+    let after-value = c .before .before .before .value .ensures in
+    verdict-fails after-space _ _ (c .before .r2 .given .1) after-value
 
 pub scan-spec : {M : Type 1} → statement M
 scan-spec =

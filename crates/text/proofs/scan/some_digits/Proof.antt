@@ -1,17 +1,16 @@
 -- What was passed is digits, and at the end the item is done: before another byte, or with the text.
-use mathlib.Core.Path.{_≡_, refl}
-use mathlib.Core.List.{List, [], _∷_, map}
-use Prim.Native.Nat.{ℕ, _≤_, _-_, _+_}
+use mathlib.Core.Path.{refl}
+use mathlib.Core.List.{[], _∷_}
+use Prim.Native.Nat.{_-_}
 use native.Mathlib.Omega.{arith}
-use lib.ListN.{length, getD, drop, replicate}
-use mathlib.Core.Logic.{⊎-elim}
+use lib.ListN.{length}
 use Rattle.text.specs.Reading.{Leads}
 use Rattle.text.specs.Machine.{digits, optional}
-use Rattle.text.proofs.Laws.Reading.{stay, seq, takes, passes, skips}
-use Rattle.text.proofs.Laws.Moves.{digits-is, digits-under, digits-over}
 use borrow.Author.Needs.{needs}
 use Rattle.text.proofs.scan.some_digits.Statement.{statement}
 use Rattle.text.proofs.scan.some_digits.Tie as tie
+use Rattle.text.proofs.Laws.Reading.{stay, seq, takes, passes, skips}
+use Rattle.text.proofs.Laws.Moves.Numbers.{digits-is, digits-under, digits-over}
 
 abbrev Inv-loop : tie.InvT-loop
 Inv-loop s at i₀ i = Leads s (digits ∷ []) at (digits ∷ []) i
@@ -32,13 +31,21 @@ loop-less : tie.Need-loop-less Inv-loop μ-loop
 loop-less c = search needs
 
 loop-again : tie.Need-loop-again Inv-loop μ-loop
-loop-again c = seq (c .before .before .before .before .loop .inv) (takes digits [] (digits ∷ []) (c .before .before .before .loop-test .taken) (digits-is _ (c .before .if1 .left) (c .if2 .taken)))
+loop-again c =
+    let loop = c .before .before .before .before .loop in
+    let test = c .before .before .before .loop-test in
+    seq (loop .inv) (takes digits [] (digits ∷ []) (test .taken) (digits-is _ (c .before .if1 .left) (c .if2 .taken)))
 
 returns : tie.Need-returns Inv-loop μ-loop
-returns c = seq (c .before .before .before .loop .inv) (passes digits [] (c .before .before .loop-test .taken) (digits-under _ (c .if1 .taken)))
+returns c =
+    let loop = c .before .before .before .loop in
+    seq (loop .inv) (passes digits [] (c .before .before .loop-test .taken) (digits-under _ (c .if1 .taken)))
 
 returns-2 : tie.Need-returns-2 Inv-loop μ-loop
-returns-2 c = seq (c .before .before .before .before .loop .inv) (passes digits [] (c .before .before .before .loop-test .taken) (digits-over _ (c .if2 .left)))
+returns-2 c =
+    let loop = c .before .before .before .before .loop in
+    let test = c .before .before .before .loop-test in
+    seq (loop .inv) (passes digits [] (test .taken) (digits-over _ (c .if2 .left)))
 
 returns-3 : tie.Need-returns-3 Inv-loop μ-loop
 unfolding optional

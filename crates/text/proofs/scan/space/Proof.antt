@@ -1,17 +1,17 @@
 -- What was passed is white space, and at the end the item is done: before a byte of another kind, or with the text.
-use mathlib.Core.Path.{_≡_, refl}
-use mathlib.Core.List.{List, [], _∷_, map}
-use Prim.Native.Nat.{ℕ, _≤_, _-_, _+_}
+use mathlib.Core.Path.{refl}
+use mathlib.Core.List.{[], _∷_}
+use Prim.Native.Nat.{_-_}
 use native.Mathlib.Omega.{arith}
-use lib.ListN.{length, getD, drop, replicate}
+use lib.ListN.{length}
 use mathlib.Core.Logic.{⊎-elim}
 use Rattle.text.specs.Reading.{Leads}
 use Rattle.text.specs.Machine.{ws, optional}
-use Rattle.text.proofs.Laws.Reading.{stay, seq, takes, passes, skips}
-use Rattle.text.proofs.Laws.Moves.{ws-line, ws-key, ws-under, ws-over}
 use borrow.Author.Needs.{needs}
 use Rattle.text.proofs.scan.space.Statement.{statement}
 use Rattle.text.proofs.scan.space.Tie as tie
+use Rattle.text.proofs.Laws.Reading.{stay, seq, takes, passes, skips}
+use Rattle.text.proofs.Laws.Moves.Bytes.{ws-line, ws-key, ws-under, ws-over}
 
 abbrev Inv-loop : tie.InvT-loop
 Inv-loop s at i₀ i = Leads s (ws ∷ []) at (ws ∷ []) i
@@ -26,10 +26,16 @@ shared-slice-read-b : tie.Need-shared-slice-read-b Inv-loop μ-loop
 shared-slice-read-b c = search needs
 
 returns : tie.Need-returns Inv-loop μ-loop
-returns c = seq (c .before .before .before .before .loop .inv) (passes ws [] (c .before .before .before .loop-test .taken) (ws-under _ (c .if1 .taken) (c .before .match .rest .1)))
+returns c =
+    let loop = c .before .before .before .before .loop in
+    let test = c .before .before .before .loop-test in
+    seq (loop .inv) (passes ws [] (test .taken) (ws-under _ (c .if1 .taken) (c .before .match .rest .1)))
 
 returns-2 : tie.Need-returns-2 Inv-loop μ-loop
-returns-2 c = seq (c .before .before .before .before .before .loop .inv) (passes ws [] (c .before .before .before .before .loop-test .taken) (ws-over _ (c .if2 .left) (c .before .before .match .rest .1)))
+returns-2 c =
+    let loop = c .before .before .before .before .before .loop in
+    let test = c .before .before .before .before .loop-test in
+    seq (loop .inv) (passes ws [] (test .taken) (ws-over _ (c .if2 .left) (c .before .before .match .rest .1)))
 
 add-i : tie.Need-add-i Inv-loop μ-loop
 add-i c = search needs

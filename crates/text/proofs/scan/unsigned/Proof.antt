@@ -1,16 +1,13 @@
 -- A zero stands alone before the fraction, any other digit may have more behind it.
-use mathlib.Core.Path.{_≡_, refl}
-use mathlib.Core.List.{List, [], _∷_, map}
-use Prim.Native.Nat.{ℕ, _≤_, _-_, _+_}
+use mathlib.Core.Path.{refl}
+use mathlib.Core.List.{[], _∷_}
 use native.Mathlib.Omega.{arith}
-use lib.ListN.{length, getD, drop, replicate}
-use Rattle.text.specs.Reading.{Leads}
 use Rattle.text.specs.Machine.{digits, integer, fraction, optional}
-use Rattle.text.proofs.Laws.Reading.{seq, frame, goes-seq, takes, refuses, stops}
-use Rattle.text.proofs.Laws.Moves.{integer-zero, integer-more, integer-under, integer-over}
 use borrow.Author.Needs.{needs}
 use Rattle.text.proofs.scan.unsigned.Statement.{statement}
 use Rattle.text.proofs.scan.unsigned.Tie as tie
+use Rattle.text.proofs.Laws.Reading.{seq, frame, goes-seq, takes, refuses, stops}
+use Rattle.text.proofs.Laws.Moves.Numbers.{integer-zero, integer-more, integer-under, integer-over}
 
 returns : tie.Need-returns
 unfolding optional
@@ -35,12 +32,22 @@ past-fraction-requires-2 : tie.Need-past-fraction-requires-2
 past-fraction-requires-2 c κs = c .some-digits .ensures .high
 
 returns-2 : tie.Need-returns-2
-returns-2 c = goes-seq (c .past-fraction .result) (takes integer [] (fraction ∷ []) (c .before .before .before .if1 .left) (integer-zero _ (c .before .match .keys1))) (c .past-fraction .ensures)
+returns-2 c =
+    let if1 = c .before .before .before .if1 in
+    goes-seq (c .past-fraction .result)
+    (takes integer [] (fraction ∷ []) (if1 .left) (integer-zero _ (c .before .match .keys1)))
+    (c .past-fraction .ensures)
 
 returns-3 : tie.Need-returns-3
-returns-3 c = goes-seq (c .past-fraction2 .result)
-    (seq (takes integer [] (digits ∷ fraction ∷ []) (c .before .before .before .before .before .before .if1 .left) (integer-more _ (c .before .before .before .before .match .rest .1) (c .before .before .before .if2 .left) (c .before .before .if3 .taken))) (frame (fraction ∷ []) (c .before .some-digits .ensures)))
-    (c .past-fraction2 .ensures)
+returns-3 c =
+    let if1 = c .before .before .before .before .before .before .if1 in
+    let arms = c .before .before .before .before .match in
+    let if2 = c .before .before .before .if2 in
+    goes-seq (c .past-fraction2 .result)
+    (seq
+    (takes integer [] (digits ∷ fraction ∷ []) (if1 .left)
+    (integer-more _ (arms .rest .1) (if2 .left) (c .before .before .if3 .taken)))
+    (frame (fraction ∷ []) (c .before .some-digits .ensures))) (c .past-fraction2 .ensures)
 
 returns-4 : tie.Need-returns-4
 returns-4 c = refuses integer [] (c .before .before .before .if1 .left) (integer-under _ (c .if2 .taken))

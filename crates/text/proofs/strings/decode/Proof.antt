@@ -1,7 +1,7 @@
 -- Each turn lays one character more over the run, and goes on behind its bytes.
 use Prim.Native.Nat.{_-_}
-use Rattle.text.proofs.Laws.Strings.Runs.{rest-some, Sofar, sofar-start, sofar-length, sofar-ascii}
-use Rattle.text.proofs.Laws.Strings.Runs.{sofar-char, sofar-lone, sofar-count, sofar-short}
+use Rattle.text.proofs.Laws.Strings.Runs.{rest-some, Sofar, sofar-start, sofar-length, sofar-ascii, sofar-char}
+use Rattle.text.proofs.Laws.Strings.Runs.{sofar-lone, sofar-count, sofar-short}
 use lib.ListN.{length}
 use native.Mathlib.Omega.{arith}
 use borrow.Author.Needs.{needs}

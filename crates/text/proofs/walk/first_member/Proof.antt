@@ -1,13 +1,11 @@
 -- Behind the white space stands the closing brace or the first member.
-use mathlib.Core.Path.{_≡_, refl, sym, ap, _∙_}
-use mathlib.Core.List.{List, [], _∷_}
-use Prim.Native.Nat.{ℕ, _≤_, _<_, _+_, _-_}
 use native.Mathlib.Omega.{arith}
-use lib.ListN.{length, getD}
-use Rattle.text.proofs.Laws.Contents.{stands-inside, object-turn, turn-inside, turn-closed, turn-open, leads-later}
 use borrow.Author.Needs.{needs}
 use Rattle.text.proofs.walk.first_member.Statement.{statement}
 use Rattle.text.proofs.walk.first_member.Tie as tie
+use Rattle.text.proofs.Laws.Contents.{stands-inside}
+use Rattle.text.proofs.Laws.Contents.Turns.{object-turn, turn-inside, turn-closed, turn-open}
+use Rattle.text.proofs.Laws.Contents.Entries.{leads-later}
 
 add-space : tie.Need-add-space
 add-space c = let h = stands-inside (c .before .pre .is) in omega arith
@@ -25,10 +23,20 @@ returns : tie.Need-returns
 returns c = λ ms e p. turn-closed (object-turn (c .before .before .space .ensures) p) (c .if1 .taken)
 
 entry-requires : tie.Need-entry-requires
-entry-requires c κs = record { what = c .before .before .before .before .pre .what; stop = c .before .before .before .before .pre .stop; is = turn-open (object-turn (c .before .before .space .ensures) (c .before .before .before .before .pre .is)) (c .if1 .left) }
+entry-requires c κs =
+    let pre = c .before .before .before .before .pre in
+    record {
+      what = pre .what;
+      stop = pre .stop;
+      is = turn-open (object-turn (c .before .before .space .ensures) (pre .is)) (c .if1 .left);
+    }
 
 returns-2 : tie.Need-returns-2
-returns-2 c = λ ms e p. leads-later _ _ _ ms e (c .entry .result) (let l = c .before .before .before .space .ensures .low in omega arith) (c .entry .ensures ms e (turn-open (object-turn (c .before .before .before .space .ensures) p) (c .before .if1 .left)))
+returns-2 c =
+    let after-space = c .before .before .before .space .ensures in
+    λ ms e p.
+    leads-later _ _ _ ms e (c .entry .result) (let l = after-space .low in omega arith)
+    (c .entry .ensures ms e (turn-open (object-turn after-space p) (c .before .if1 .left)))
 
 pub first-member-spec : {M : Type 1} → statement M
 first-member-spec =

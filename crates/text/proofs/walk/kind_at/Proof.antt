@@ -1,13 +1,10 @@
 -- Each kind of value has first bytes of its own.
-use mathlib.Core.Path.{_≡_, refl, sym, ap, _∙_}
-use mathlib.Core.List.{List, [], _∷_}
-use Prim.Native.Nat.{ℕ, _≤_, _<_, _+_, _-_}
-use native.Mathlib.Omega.{arith}
-use lib.ListN.{length, getD}
+use mathlib.Core.Path.{refl}
 use Rattle.text.specs.declared.walk.Kind.the-variants as K
-use Rattle.text.proofs.Laws.Contents.{kindBy, stands-inside, kind-is, kind-else}
 use Rattle.text.proofs.walk.kind_at.Statement.{statement}
 use Rattle.text.proofs.walk.kind_at.Tie as tie
+use Rattle.text.proofs.Laws.Contents.Kinds.{kindBy, kind-is, kind-else}
+use Rattle.text.proofs.Laws.Contents.{stands-inside}
 
 shared-slice-read-b : tie.Need-shared-slice-read-b
 shared-slice-read-b c = stands-inside (c .before .pre .is)
@@ -37,7 +34,10 @@ unfolding kindBy
 returns-6 c = λ t e p. kind-is p 123 K.Object refl (c .match .keys6)
 
 returns-7 : tie.Need-returns-7
-returns-7 c = λ t e p. kind-else p (c .match .rest .0 .0 .0 .0 .0 .1) (c .match .rest .0 .0 .0 .0 .1) (c .match .rest .0 .0 .0 .1) (c .match .rest .0 .0 .1) (c .match .rest .0 .1) (c .match .rest .1)
+returns-7 c =
+    λ t e p.
+    kind-else p (c .match .rest .0 .0 .0 .0 .0 .1) (c .match .rest .0 .0 .0 .0 .1) (c .match .rest .0 .0 .0 .1)
+    (c .match .rest .0 .0 .1) (c .match .rest .0 .1) (c .match .rest .1)
 
 pub kind-at-spec : {M : Type 1} → statement M
 kind-at-spec =
