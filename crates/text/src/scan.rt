@@ -6,7 +6,7 @@ ghost use Prim.Native.Nat.{_≤_};
 ghost use lib.ListN.{length, replicate};
 ghost use Rattle.text.specs.Base.{At};
 ghost use Rattle.text.specs.Machine.{ws, byte, range, hex, text, char, escape, digits, digit, integer, fraction, exponent, sign, value, before, close, verdict};
-ghost use Rattle.text.specs.Reading.{Done, Goes, Begins, Opens, Follows};
+ghost use Rattle.text.specs.Reading.{Leads, Done, Goes, Begins, Opens, Follows};
 
 // Levels that a text may open.
 pub const LEVELS: usize = 16;
@@ -283,12 +283,37 @@ fn character(s: &[u8], at: usize, b: u8) -> Part
     }
 }
 
+// Past the plain characters of a string that are one byte each: most of most strings.
+fn plain(s: &[u8], at: usize) -> usize
+    requires { ⌜ at ≤ length (now s) ⌝ }
+    ensures { λ r. ⌜ Leads (now (s .entry)) (text ∷ []) at (text ∷ []) r ⌝ }
+{
+    let mut i = at;
+    while i < s.len() {
+        let b = s[i];
+        if b < 32 {
+            return i;
+        }
+        if 127 < b {
+            return i;
+        }
+        if b == 34 {
+            return i;
+        }
+        if b == 92 {
+            return i;
+        }
+        i += 1;
+    }
+    i
+}
+
 // The rest of a string behind its opening quote, with its closing quote.
 pub fn string(s: &[u8], at: usize) -> Part
     requires { ⌜ at ≤ length (now s) ⌝ }
     ensures { λ r. ⌜ Goes (now (s .entry)) (text ∷ []) at r ⌝ }
 {
-    let mut i = at;
+    let mut i = plain(s, at);
     while i < s.len() {
         let b = s[i];
         if b == 34 {
@@ -298,7 +323,7 @@ pub fn string(s: &[u8], at: usize) -> Part
         let Part::Past(n) = r else {
             return r;
         };
-        i = n;
+        i = plain(s, n);
     }
     Part::Fails(Verdict::Breaks(i))
 }

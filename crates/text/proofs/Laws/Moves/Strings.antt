@@ -1,5 +1,5 @@
 -- The items of a string, an escape and a sequence of UTF-8: each test on the byte picks one branch of the move.
-use mathlib.Core.Path.{_≡_}
+use mathlib.Core.Path.{_≡_, ap, _∙_}
 use mathlib.Core.List.{[], _∷_}
 use Prim.Native.Nat.{ℕ, _≤_, _<_}
 use native.Mathlib.Omega.{arith}
@@ -7,7 +7,7 @@ use lib.ListN.{replicate}
 use borrow.Author.Tests.{ne-eqb}
 use types.Run.{OneOf}
 use Rattle.text.specs.Base.{oneOf}
-use Rattle.text.specs.Machine.{bad, go, hex, text, char, escape, letters, sequence, leads, high, owing, move}
+use Rattle.text.specs.Machine.{Move, bad, go, hex, text, char, escape, letters, sequence, leads, high, owing, move}
 use Rattle.text.proofs.Laws.Tests.{inside, under, over, among, outside}
 
 module _ (b : ℕ) where
@@ -138,3 +138,7 @@ module _ (b : ℕ) where
   pub text-char : (b ≡ 34 → ⊥) → move text b ≡ owing (move char b) (text ∷ [])
   unfolding move
   text-char h = rw (ne-eqb b 34 h)
+
+  -- a character of one byte leaves the rest of the string owed as it was
+  pub text-plain : (b ≡ 34 → ⊥) → (b ≡ 92 → ⊥) → 32 ≤ b → b < 128 → move text b ≡ go (text ∷ [])
+  text-plain q e l u = text-char q ∙ ap (λ (m : Move). owing m (text ∷ [])) (char-plain e l u)
