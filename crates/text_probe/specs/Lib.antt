@@ -1,0 +1,2 @@
+-- What the contracts of `text_probe` cite.
+pub mod Numbers
