@@ -6,13 +6,13 @@ use native.Mathlib.Omega.{arith}
 use lib.ListN.{length}
 use Rattle.text.specs.Machine.{text, char, optional}
 use Rattle.text.specs.Reading.{Leads}
-use borrow.Author.Needs.{needs}
-use Rattle.text.proofs.scan.string.Statement.{statement}
-use Rattle.text.proofs.scan.string.Tie as tie
 use Rattle.text.proofs.Laws.Reading.{stay, seq, frame, fall, past, failed, takes, alike, stops}
 use Rattle.text.proofs.Laws.Moves.Strings.{text-quote}
 use Rattle.text.proofs.Laws.Moves.Owing.{text-one}
 use Rattle.text.proofs.Laws.Places.{char-grows}
+use borrow.Author.Needs.{needs}
+use Rattle.text.proofs.scan.string.Statement.{statement}
+use Rattle.text.proofs.scan.string.Tie as tie
 
 abbrev Inv-loop : tie.InvT-loop
 Inv-loop s at i₀ i = Leads s (text ∷ []) at (text ∷ []) i
@@ -55,11 +55,8 @@ returns-2 c =
 loop-less : tie.Need-loop-less Inv-loop μ-loop
 loop-less c =
     let after-character = c .before .before .before .character .ensures in
-    omega (
-      arith,
-      char-grows (past (char ∷ []) _ _ (c .before .r .given .1) after-character),
-      past (char ∷ []) _ _ (c .before .r .given .1) after-character .high,
-    )
+    let one = past (char ∷ []) _ _ (c .before .r .given .1) after-character in
+    omega (arith, char-grows one, one .high)
 
 loop-again : tie.Need-loop-again Inv-loop μ-loop
 loop-again c =
