@@ -1,10 +1,9 @@
 -- A value's first byte is told by its production: never white space, never the end of a list.
 use mathlib.Core.Path.{_≡_, refl}
-use mathlib.Core.List.{List, [], _∷_}
+use mathlib.Core.List.{List}
 use mathlib.Core.Logic.{⊎-elim}
 use Prim.Native.Nat.{ℕ, zero, _≤_}
 use native.Mathlib.Omega.{arith}
-use types.Run.{OneOf}
 use Rattle.text.specs.Base.{At, oneOf}
 use Rattle.text.specs.Json.{Json, Values, Members, zero, from-1-9, Number, unsigned, negative, Spelt, a-value}
 use Rattle.text.specs.Json.{elements, members, Reads, a-null, a-true, a-false, a-number, a-string, empty-list}
@@ -38,10 +37,9 @@ number-first (negative i f x) p =
     record { first = 45; at = spelt-first p; low = omega arith; high = omega arith }
 
 number-starts : {s : List ℕ} {i : ℕ} → Numeral s i → Starts s i
-number-starts b = starts (b .first) (b .at) (ws-over (b .first) (omega arith) (λ o. no-key o)) (omega arith)
-  where
-    no-key : OneOf (13 ∷ 32 ∷ []) (b .first) → ⊥
-    no-key o = ⊎-elim (λ e. omega arith) (λ e. omega arith) o
+number-starts b =
+    let black = ws-over (b .first) (omega arith) (⊎-elim (λ e. omega arith) (λ e. omega arith)) in
+    starts (b .first) (b .at) black (omega arith)
 
 pub value-starts : {s : List ℕ} {i e : ℕ} {t : Json} → Reads s (a-value t) i e → Starts s i
 unfolding move oneOf

@@ -1,16 +1,16 @@
 -- White space owed is the grammar's, from the end of the text back.
 use mathlib.Core.Path.{_≡_, refl, sym, subst}
-use mathlib.Core.Logic.{inl, inr, ⊎-elim}
+use mathlib.Core.Logic.{⊎-elim}
 use mathlib.Core.List.{List, [], _∷_}
 use Prim.Native.Nat.{ℕ, _+_, _≤_, _<_}
 use native.Mathlib.Omega.{arith}
 use native.Mathlib.Decide.{decLt, ℕ-discrete}
 use lib.ListN.{length, getD}
-use types.Run.{OneOf}
 use Rattle.text.specs.Json.{White, tab, line-feed, carriage-return, space, Space, no-space, white}
-use Rattle.text.specs.Machine.{Item, pass, go, ws, move, optional}
+use Rattle.text.specs.Machine.{Item, pass, ws, move, optional}
 use Rattle.text.proofs.Laws.Places.{Alive}
-use Rattle.text.proofs.Laws.Moves.Bytes.{ws-key, ws-line, ws-over, ws-under}
+use Rattle.text.proofs.Laws.Spaces.{white-moves}
+use Rattle.text.proofs.Laws.Moves.Bytes.{ws-over, ws-under}
 use Rattle.text.proofs.Laws.Taking.Items.{from-end, alive-takes, alive-passes, alive-skips, here}
 
 pub record Spaced (s : List ℕ) (ys : List Item) (i : ℕ) : Type 0 where
@@ -18,24 +18,21 @@ pub record Spaced (s : List ℕ) (ys : List Item) (i : ℕ) : Type 0 where
   pub space : Space s i stop
   pub next : Alive s ys stop
 
--- is a byte white, as a fact and as a move
+-- a byte is white space or passed as none
 data WhiteOr (b : ℕ) : Type 0 where
-  is-white : White b → move ws b ≡ go (ws ∷ []) → WhiteOr b
+  is-white : White b → WhiteOr b
   is-black : move ws b ≡ pass → WhiteOr b
 
 white-or : (b : ℕ) → WhiteOr b
 white-or b = by (ℕ-discrete b 9) (ℕ-discrete b 10) (ℕ-discrete b 13) (ℕ-discrete b 32) (decLt b 9)
   where
-    none : (b ≡ 13 → ⊥) → (b ≡ 32 → ⊥) → OneOf (13 ∷ 32 ∷ []) b → ⊥
-    none p q o = ⊎-elim p q o
-
     by : Dec (b ≡ 9) → Dec (b ≡ 10) → Dec (b ≡ 13) → Dec (b ≡ 32) → Dec (b < 9) → WhiteOr b
-    by (yes e) d f g l = is-white (subst White (sym e) tab) (ws-line b (omega arith) (omega arith))
-    by (no c) (yes e) f g l = is-white (subst White (sym e) line-feed) (ws-line b (omega arith) (omega arith))
-    by (no c) (no d) (yes e) g l = is-white (subst White (sym e) carriage-return) (ws-key b (inl e))
-    by (no c) (no d) (no f) (yes e) l = is-white (subst White (sym e) space) (ws-key b (inr e))
-    by (no c) (no d) (no f) (no g) (yes l) = is-black (ws-under b l (none f g))
-    by (no c) (no d) (no f) (no g) (no l) = is-black (ws-over b (omega arith) (none f g))
+    by (yes e) d f g l = is-white (subst White (sym e) tab)
+    by (no c) (yes e) f g l = is-white (subst White (sym e) line-feed)
+    by (no c) (no d) (yes e) g l = is-white (subst White (sym e) carriage-return)
+    by (no c) (no d) (no f) (yes e) l = is-white (subst White (sym e) space)
+    by (no c) (no d) (no f) (no g) (yes l) = is-black (ws-under b l (⊎-elim f g))
+    by (no c) (no d) (no f) (no g) (no l) = is-black (ws-over b (omega arith) (⊎-elim f g))
 
 space-step : {s : List ℕ} {i : ℕ} (ys : List Item) → Alive s (ws ∷ ys) i
     → ((j : ℕ) → i < j → j ≤ length s → Alive s (ws ∷ ys) j → Spaced s ys j) → Spaced s ys i
@@ -45,8 +42,8 @@ space-step {s} {i} ys v on = by (decLt i (length s)) (white-or (getD s i 0))
     by : Dec (i < length s) → WhiteOr (getD s i 0) → Spaced s ys i
     by (no h) w = record { stop = i; space = no-space (v .high); next = alive-skips ws ys v h refl }
     by (yes h) (is-black m) = record { stop = i; space = no-space (v .high); next = alive-passes ws ys v h m }
-    by (yes h) (is-white w m) =
-        let r = on (i + 1) (omega arith) (omega arith) (alive-takes ws ys v (ws ∷ []) h m) in
+    by (yes h) (is-white w) =
+        let r = on (i + 1) (omega arith) (omega arith) (alive-takes ws ys v (ws ∷ []) h (white-moves w)) in
         record { stop = r .stop; space = white (here s i h) w (r .space); next = r .next }
 
 pub alive-space : {s : List ℕ} {i : ℕ} (ys : List Item) → Alive s (ws ∷ ys) i → Spaced s ys i

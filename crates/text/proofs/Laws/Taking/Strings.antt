@@ -14,26 +14,24 @@ use Rattle.text.proofs.Laws.Reading.{alike}
 use Rattle.text.proofs.Laws.Places.{Alive, alive-seq, alive-inside}
 use Rattle.text.proofs.Laws.Parts.{spelt-none, spelt-one, spelt-append, spelt-length}
 use Rattle.text.proofs.Laws.Taking.Items.{Took, from-end, here, alive-takes, alive-refuses}
-use Rattle.text.proofs.Laws.Moves.Strings.{char-escape, char-high, char-low, char-plain, high-tail, text-quote}
+use Rattle.text.proofs.Laws.Moves.Strings.{char-escape, char-low, char-plain, high-tail, text-quote}
 use Rattle.text.proofs.Laws.Moves.Owing.{text-one}
 use Rattle.text.proofs.Laws.Taking.Escapes.{AChar, took-escape}
-use Rattle.text.proofs.Laws.Taking.Sequences.{took-two, took-long}
+use Rattle.text.proofs.Laws.Taking.Sequences.{took-high}
 
 pub took-char : {s : List ℕ} {i : ℕ} (ys : List Item) → (getD s i 0 ≡ 34 → ⊥) → Alive s (char ∷ ys) i
     → Took AChar s ys i
 unfolding optional
 took-char {s} {i} ys n v =
     by (alive-inside char ys refl v) (ℕ-discrete (getD s i 0) 92) (decLt (getD s i 0) 32) (decLt (getD s i 0) 128)
-    (decLt (getD s i 0) 194) (decLt (getD s i 0) 224)
   where
-    by : i < length s → Dec (getD s i 0 ≡ 92) → Dec (getD s i 0 < 32) → Dec (getD s i 0 < 128) → Dec (getD s i 0 < 194)
-        → Dec (getD s i 0 < 224) → Took AChar s ys i
-    by h (yes e) d2 d3 d4 d5 =
-        took-escape ys (record { inside = h; is = e })
-        (alive-takes char ys v (escape ∷ []) h (char-escape (getD s i 0) e))
-    by h (no n1) (yes p) d3 d4 d5 =
+    by : i < length s → Dec (getD s i 0 ≡ 92) → Dec (getD s i 0 < 32) → Dec (getD s i 0 < 128) → Took AChar s ys i
+    by h (yes e) d2 d3 =
+        let a = alive-takes char ys v (escape ∷ []) h (char-escape (getD s i 0) e) in
+        took-escape ys (record { inside = h; is = e }) a
+    by h (no n1) (yes p) d3 =
         absurd (alive-refuses char ys v h (char-low (getD s i 0) p ∙ high-tail (getD s i 0) (omega arith)))
-    by h (no n1) (no p) (yes q) d4 d5 =
+    by h (no n1) (no p) (yes q) =
         record {
           word = getD s i 0 ∷ [];
           stop = i + 1;
@@ -44,10 +42,7 @@ took-char {s} {i} ys n v =
           };
           next = alive-takes char ys v [] h (char-plain (getD s i 0) n1 (omega arith) q);
         }
-    by h (no n1) (no p) (no q) (yes r) d5 =
-        absurd (alive-refuses char ys v h (char-high (getD s i 0) (omega arith) ∙ high-tail (getD s i 0) r))
-    by h (no n1) (no p) (no q) (no r) (yes t) = took-two ys h v (omega arith) (omega arith) t
-    by h (no n1) (no p) (no q) (no r) (no t) = took-long ys h v (omega arith)
+    by h (no n1) (no p) (no q) = took-high ys h v (omega arith)
 
 -- a character has a byte at least
 char-length : {bs : List ℕ} {u : Unit} → Char bs u → 0 < length bs

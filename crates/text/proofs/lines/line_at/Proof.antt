@@ -1,8 +1,8 @@
 -- The line ends before the first LF or with the text.
+use Rattle.text.proofs.Laws.Lines.Found.{line-over, line-lf, line-last}
 use borrow.Author.Needs.{needs}
 use Rattle.text.proofs.lines.line_at.Statement.{statement}
 use Rattle.text.proofs.lines.line_at.Tie as tie
-use Rattle.text.proofs.Laws.Lines.Found.{line-over, line-lf, line-last}
 
 returns : tie.Need-returns
 returns c = line-over _ _ (c .if1 .taken)

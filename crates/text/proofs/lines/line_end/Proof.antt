@@ -4,10 +4,10 @@ use Prim.Native.Nat.{_≤_, _+_, _-_}
 use native.Mathlib.Omega.{arith}
 use lib.ListN.{length, drop}
 use Rattle.text.specs.Lines.{unbroken}
+use Rattle.text.proofs.Laws.Lines.Found.{unbroken-lf, unbroken-more, unbroken-end}
 use borrow.Author.Needs.{needs}
 use Rattle.text.proofs.lines.line_end.Statement.{statement}
 use Rattle.text.proofs.lines.line_end.Tie as tie
-use Rattle.text.proofs.Laws.Lines.Found.{unbroken-lf, unbroken-more, unbroken-end}
 
 abbrev Inv-loop : tie.InvT-loop
 Inv-loop s at i₀ i = (i ≤ length s) × (i + unbroken (drop i s) ≡ at + unbroken (drop at s))

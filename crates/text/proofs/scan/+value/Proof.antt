@@ -3,14 +3,14 @@
 use mathlib.Core.List.{[], _∷_}
 use Prim.Native.Nat.{ℕ, _-_, _<_}
 use native.Mathlib.Omega.{arith}
-use borrow.Author.Needs.{needs}
-use borrow.Fn.Kinds.{In}
-use borrow.Fn.PlainCycle.{Measures, is, falls, and}
 use lib.ListN.{length}
 use Rattle.text.specs.Machine.{ws, value as valued, next}
 use Rattle.text.specs.Reading.{Enters}
 use Rattle.text.proofs.Laws.Reading.{past, failed}
 use Rattle.text.proofs.Laws.Values.{entered, ended, inner-more, inner-later, inner-closed, inner-stops}
+use borrow.Author.Needs.{needs}
+use borrow.Fn.Kinds.{In}
+use borrow.Fn.PlainCycle.{Measures, is, falls, and}
 use Rattle.text.proofs.scan.value.Reads as value
 use Rattle.text.proofs.scan.value.Kinds as value-kinds
 use Rattle.text.proofs.scan.+value.Lts-value as value-lts

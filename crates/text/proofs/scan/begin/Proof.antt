@@ -1,18 +1,18 @@
 -- One law for each kind of first byte; what is owed behind it is what the call reads.
 use mathlib.Core.Path.{refl}
 use mathlib.Core.List.{[], _∷_}
-use native.Mathlib.Omega.{arith}
 use mathlib.Core.Logic.{inl, inr}
+use native.Mathlib.Omega.{arith}
 use Rattle.text.specs.Machine.{integer, value, optional}
 use Rattle.text.specs.declared.scan.Shape.the-variants.{List as list, Object as object}
-use borrow.Author.Needs.{needs}
-use Rattle.text.proofs.scan.begin.Statement.{statement}
-use Rattle.text.proofs.scan.begin.Tie as tie
 use Rattle.text.proofs.Laws.Reading.{goes-seq, takes, refuses, stops, alike}
 use Rattle.text.proofs.Laws.Moves.Values.{value-text, value-minus, value-digit, value-false, value-null}
 use Rattle.text.proofs.Laws.Moves.Values.{value-true, value-none}
 use Rattle.text.proofs.Laws.Moves.Owing.{same-move}
 use Rattle.text.proofs.Laws.Values.{begins-deep, begins-opened}
+use borrow.Author.Needs.{needs}
+use Rattle.text.proofs.scan.begin.Statement.{statement}
+use Rattle.text.proofs.scan.begin.Tie as tie
 
 returns : tie.Need-returns
 unfolding optional

@@ -3,12 +3,12 @@ use mathlib.Core.Path.{_∙_}
 use mathlib.Core.List.{[]}
 use native.Mathlib.Omega.{arith}
 use Rattle.text.specs.Machine.{char}
-use borrow.Author.Needs.{needs}
-use Rattle.text.proofs.scan.character.Statement.{statement}
-use Rattle.text.proofs.scan.character.Tie as tie
 use Rattle.text.proofs.Laws.Reading.{goes-seq, takes-at, refuses-at}
 use Rattle.text.proofs.Laws.Moves.Strings.{char-escape, char-plain, char-low, char-high, high-tail, high-two}
 use Rattle.text.proofs.Laws.Moves.Strings.{high-e0, high-ed, high-three, high-f0, high-four, high-f4, high-none}
+use borrow.Author.Needs.{needs}
+use Rattle.text.proofs.scan.character.Statement.{statement}
+use Rattle.text.proofs.scan.character.Tie as tie
 
 add-i : tie.Need-add-i
 add-i c = search needs

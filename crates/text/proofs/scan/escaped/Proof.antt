@@ -4,11 +4,11 @@ use mathlib.Core.List.{[]}
 use native.Mathlib.Omega.{arith}
 use lib.ListN.{replicate}
 use Rattle.text.specs.Machine.{hex, escape, optional}
+use Rattle.text.proofs.Laws.Reading.{goes-seq, takes, refuses, stops}
+use Rattle.text.proofs.Laws.Moves.Strings.{escape-letter, escape-hex, escape-not}
 use borrow.Author.Needs.{needs}
 use Rattle.text.proofs.scan.escaped.Statement.{statement}
 use Rattle.text.proofs.scan.escaped.Tie as tie
-use Rattle.text.proofs.Laws.Reading.{goes-seq, takes, refuses, stops}
-use Rattle.text.proofs.Laws.Moves.Strings.{escape-letter, escape-hex, escape-not}
 
 returns : tie.Need-returns
 unfolding optional

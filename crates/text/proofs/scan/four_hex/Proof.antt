@@ -1,17 +1,17 @@
 -- So many digits are still owed as `left` says.
 use mathlib.Core.Path.{refl}
 use mathlib.Core.List.{[]}
+use mathlib.Core.Logic.{⊎-elim}
 use native.Mathlib.Omega.{arith}
 use lib.ListN.{replicate}
-use mathlib.Core.Logic.{⊎-elim}
 use Rattle.text.specs.Reading.{Leads}
 use Rattle.text.specs.Machine.{hex, optional}
-use borrow.Author.Needs.{needs}
-use Rattle.text.proofs.scan.four_hex.Statement.{statement}
-use Rattle.text.proofs.scan.four_hex.Tie as tie
 use Rattle.text.proofs.Laws.Reading.{stay, seq, fall, takes, refuses, stops, peel, spent}
 use Rattle.text.proofs.Laws.Moves.Strings.{hex-digit, hex-upper, hex-lower, hex-below, hex-between, hex-gap}
 use Rattle.text.proofs.Laws.Moves.Strings.{hex-above}
+use borrow.Author.Needs.{needs}
+use Rattle.text.proofs.scan.four_hex.Statement.{statement}
+use Rattle.text.proofs.scan.four_hex.Tie as tie
 
 abbrev Inv-loop : tie.InvT-loop
 Inv-loop s at i₀ left₀ i left = Leads s (replicate 4 hex) at (replicate left hex) i

@@ -3,11 +3,11 @@ use mathlib.Core.Path.{refl}
 use mathlib.Core.List.{[], _∷_}
 use native.Mathlib.Omega.{arith}
 use Rattle.text.specs.Machine.{byte, optional}
+use Rattle.text.proofs.Laws.Reading.{seq, frame, fall, takes, refuses, stops}
+use Rattle.text.proofs.Laws.Moves.Bytes.{byte-is, byte-not}
 use borrow.Author.Needs.{needs}
 use Rattle.text.proofs.scan.mark.Statement.{statement}
 use Rattle.text.proofs.scan.mark.Tie as tie
-use Rattle.text.proofs.Laws.Reading.{seq, frame, fall, takes, refuses, stops}
-use Rattle.text.proofs.Laws.Moves.Bytes.{byte-is, byte-not}
 
 space-requires : tie.Need-space-requires
 space-requires c κs = search needs

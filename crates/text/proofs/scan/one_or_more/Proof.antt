@@ -3,11 +3,11 @@ use mathlib.Core.Path.{refl}
 use mathlib.Core.List.{[], _∷_}
 use native.Mathlib.Omega.{arith}
 use Rattle.text.specs.Machine.{digit, digits, optional}
+use Rattle.text.proofs.Laws.Reading.{seq, takes, refuses, stops}
+use Rattle.text.proofs.Laws.Moves.Numbers.{digit-is, digit-under, digit-over}
 use borrow.Author.Needs.{needs}
 use Rattle.text.proofs.scan.one_or_more.Statement.{statement}
 use Rattle.text.proofs.scan.one_or_more.Tie as tie
-use Rattle.text.proofs.Laws.Reading.{seq, takes, refuses, stops}
-use Rattle.text.proofs.Laws.Moves.Numbers.{digit-is, digit-under, digit-over}
 
 returns : tie.Need-returns
 unfolding optional

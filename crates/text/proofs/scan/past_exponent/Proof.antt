@@ -3,11 +3,11 @@ use mathlib.Core.Path.{refl}
 use mathlib.Core.List.{[], _∷_}
 use native.Mathlib.Omega.{arith}
 use Rattle.text.specs.Machine.{sign, digit, digits, exponent, optional}
+use Rattle.text.proofs.Laws.Reading.{seq, frame, goes-seq, takes, passes, skips}
+use Rattle.text.proofs.Laws.Moves.Numbers.{exponent-is, exponent-not}
 use borrow.Author.Needs.{needs}
 use Rattle.text.proofs.scan.past_exponent.Statement.{statement}
 use Rattle.text.proofs.scan.past_exponent.Tie as tie
-use Rattle.text.proofs.Laws.Reading.{seq, frame, goes-seq, takes, passes, skips}
-use Rattle.text.proofs.Laws.Moves.Numbers.{exponent-is, exponent-not}
 
 returns : tie.Need-returns
 unfolding optional

@@ -3,12 +3,12 @@ use mathlib.Core.Path.{refl}
 use mathlib.Core.List.{[], _∷_}
 use native.Mathlib.Omega.{arith}
 use Rattle.text.specs.Machine.{digit, digits, fraction, exponent, optional}
-use borrow.Author.Needs.{needs}
-use Rattle.text.proofs.scan.past_fraction.Statement.{statement}
-use Rattle.text.proofs.scan.past_fraction.Tie as tie
 use Rattle.text.proofs.Laws.Reading.{seq, frame, goes-seq, past, failed, takes, alike, skips}
 use Rattle.text.proofs.Laws.Moves.Numbers.{fraction-is, fraction-not}
 use Rattle.text.proofs.Laws.Moves.Owing.{same-move}
+use borrow.Author.Needs.{needs}
+use Rattle.text.proofs.scan.past_fraction.Statement.{statement}
+use Rattle.text.proofs.scan.past_fraction.Tie as tie
 
 returns : tie.Need-returns
 unfolding optional

@@ -3,11 +3,11 @@ use mathlib.Core.Path.{refl}
 use mathlib.Core.List.{[]}
 use native.Mathlib.Omega.{arith}
 use Rattle.text.specs.Machine.{sign, optional}
+use Rattle.text.proofs.Laws.Reading.{takes, passes, skips}
+use Rattle.text.proofs.Laws.Moves.Numbers.{sign-is, sign-not}
 use borrow.Author.Needs.{needs}
 use Rattle.text.proofs.scan.past_sign.Statement.{statement}
 use Rattle.text.proofs.scan.past_sign.Tie as tie
-use Rattle.text.proofs.Laws.Reading.{takes, passes, skips}
-use Rattle.text.proofs.Laws.Moves.Numbers.{sign-is, sign-not}
 
 returns : tie.Need-returns
 unfolding optional

@@ -6,11 +6,11 @@ use native.Mathlib.Omega.{arith}
 use lib.ListN.{length}
 use Rattle.text.specs.Reading.{Leads}
 use Rattle.text.specs.Machine.{digits, optional}
+use Rattle.text.proofs.Laws.Reading.{stay, seq, takes, passes, skips}
+use Rattle.text.proofs.Laws.Moves.Numbers.{digits-is, digits-under, digits-over}
 use borrow.Author.Needs.{needs}
 use Rattle.text.proofs.scan.some_digits.Statement.{statement}
 use Rattle.text.proofs.scan.some_digits.Tie as tie
-use Rattle.text.proofs.Laws.Reading.{stay, seq, takes, passes, skips}
-use Rattle.text.proofs.Laws.Moves.Numbers.{digits-is, digits-under, digits-over}
 
 abbrev Inv-loop : tie.InvT-loop
 Inv-loop s at i₀ i = Leads s (digits ∷ []) at (digits ∷ []) i

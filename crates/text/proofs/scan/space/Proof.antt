@@ -1,17 +1,17 @@
 -- What was passed is white space, and at the end the item is done: before a byte of another kind, or with the text.
 use mathlib.Core.Path.{refl}
 use mathlib.Core.List.{[], _∷_}
+use mathlib.Core.Logic.{⊎-elim}
 use Prim.Native.Nat.{_-_}
 use native.Mathlib.Omega.{arith}
 use lib.ListN.{length}
-use mathlib.Core.Logic.{⊎-elim}
 use Rattle.text.specs.Reading.{Leads}
 use Rattle.text.specs.Machine.{ws, optional}
+use Rattle.text.proofs.Laws.Reading.{stay, seq, takes, passes, skips}
+use Rattle.text.proofs.Laws.Moves.Bytes.{ws-line, ws-key, ws-under, ws-over}
 use borrow.Author.Needs.{needs}
 use Rattle.text.proofs.scan.space.Statement.{statement}
 use Rattle.text.proofs.scan.space.Tie as tie
-use Rattle.text.proofs.Laws.Reading.{stay, seq, takes, passes, skips}
-use Rattle.text.proofs.Laws.Moves.Bytes.{ws-line, ws-key, ws-under, ws-over}
 
 abbrev Inv-loop : tie.InvT-loop
 Inv-loop s at i₀ i = Leads s (ws ∷ []) at (ws ∷ []) i

@@ -5,11 +5,11 @@ use native.Mathlib.Omega.{arith}
 use lib.ListN.{replicate}
 use Rattle.text.specs.Reading.{Leads}
 use Rattle.text.specs.Machine.{range, optional}
+use Rattle.text.proofs.Laws.Reading.{stay, seq, fall, takes, refuses, stops, peel, spent}
+use Rattle.text.proofs.Laws.Moves.Bytes.{range-is, range-under, range-over}
 use borrow.Author.Needs.{needs}
 use Rattle.text.proofs.scan.tails.Statement.{statement}
 use Rattle.text.proofs.scan.tails.Tie as tie
-use Rattle.text.proofs.Laws.Reading.{stay, seq, fall, takes, refuses, stops, peel, spent}
-use Rattle.text.proofs.Laws.Moves.Bytes.{range-is, range-under, range-over}
 
 abbrev Inv-loop : tie.InvT-loop
 Inv-loop s at lo hi more i₀ low₀ high₀ left₀ i low high left =

@@ -3,11 +3,11 @@ use mathlib.Core.Path.{refl}
 use mathlib.Core.List.{[], _∷_}
 use native.Mathlib.Omega.{arith}
 use Rattle.text.specs.Machine.{digits, integer, fraction, optional}
+use Rattle.text.proofs.Laws.Reading.{seq, frame, goes-seq, takes, refuses, stops}
+use Rattle.text.proofs.Laws.Moves.Numbers.{integer-zero, integer-more, integer-under, integer-over}
 use borrow.Author.Needs.{needs}
 use Rattle.text.proofs.scan.unsigned.Statement.{statement}
 use Rattle.text.proofs.scan.unsigned.Tie as tie
-use Rattle.text.proofs.Laws.Reading.{seq, frame, goes-seq, takes, refuses, stops}
-use Rattle.text.proofs.Laws.Moves.Numbers.{integer-zero, integer-more, integer-under, integer-over}
 
 returns : tie.Need-returns
 unfolding optional

@@ -6,11 +6,11 @@ use native.Mathlib.Omega.{arith}
 use lib.ListN.{length, drop}
 use Rattle.text.specs.Reading.{Leads}
 use Rattle.text.specs.Machine.{byte, optional}
+use Rattle.text.proofs.Laws.Reading.{stay, seq, fall, takes, refuses, stops, letter, spelt}
+use Rattle.text.proofs.Laws.Moves.Bytes.{byte-is, byte-not}
 use borrow.Author.Needs.{needs}
 use Rattle.text.proofs.scan.word.Statement.{statement}
 use Rattle.text.proofs.scan.word.Tie as tie
-use Rattle.text.proofs.Laws.Reading.{stay, seq, fall, takes, refuses, stops, letter, spelt}
-use Rattle.text.proofs.Laws.Moves.Bytes.{byte-is, byte-not}
 
 abbrev Inv-loop : tie.InvT-loop
 Inv-loop s at w i₀ j₀ i j = (j ≤ length w) × Leads s (map byte w) at (map byte (drop j w)) i

@@ -1,6 +1,6 @@
 -- Past the end getD gives its default, 0.
-use lib.ListN.{List·getD-eq-default}
 use mathlib.Core.Path.{sym}
+use lib.ListN.{List·getD-eq-default}
 use borrow.Author.Needs.{needs}
 use Rattle.text.proofs.strings.byte_at.Statement.{statement}
 use Rattle.text.proofs.strings.byte_at.Tie as tie

@@ -1,10 +1,10 @@
 -- The four cases of meaning at an escape by digits.
+use mathlib.Core.Path.{_∙_}
+use native.Mathlib.Omega.{arith}
+use Rattle.text.specs.Decoding.{textOf}
 use Rattle.text.proofs.Laws.Strings.Digits.{under, over}
 use Rattle.text.proofs.Laws.Strings.Reading.{meaning-apart, meaning-high, meaning-low}
 use Rattle.text.proofs.Laws.Strings.Steps.{escaped-text}
-use Rattle.text.specs.Decoding.{textOf}
-use mathlib.Core.Path.{_∙_}
-use native.Mathlib.Omega.{arith}
 use borrow.Author.Needs.{needs}
 use Rattle.text.proofs.strings.coded.Statement.{statement}
 use Rattle.text.proofs.strings.coded.Tie as tie

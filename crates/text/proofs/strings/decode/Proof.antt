@@ -1,9 +1,9 @@
 -- Each turn lays one character more over the run, and goes on behind its bytes.
 use Prim.Native.Nat.{_-_}
+use native.Mathlib.Omega.{arith}
+use lib.ListN.{length}
 use Rattle.text.proofs.Laws.Strings.Runs.{rest-some, Sofar, sofar-start, sofar-length, sofar-ascii, sofar-char}
 use Rattle.text.proofs.Laws.Strings.Runs.{sofar-lone, sofar-count, sofar-short}
-use lib.ListN.{length}
-use native.Mathlib.Omega.{arith}
 use borrow.Author.Needs.{needs}
 use Rattle.text.proofs.strings.decode.Statement.{statement}
 use Rattle.text.proofs.strings.decode.Tie as tie

@@ -1,7 +1,7 @@
 -- An escape, ASCII, or a sequence.
-use Rattle.text.proofs.Laws.Strings.Reading.{read-letter, read-sequence, sequence-one, text-plain}
 use mathlib.Core.Path.{_∙_, sym}
 use native.Mathlib.Omega.{arith}
+use Rattle.text.proofs.Laws.Strings.Reading.{read-letter, read-sequence, sequence-one, text-plain}
 use borrow.Author.Needs.{needs}
 use Rattle.text.proofs.strings.first.Statement.{statement}
 use Rattle.text.proofs.strings.first.Tie as tie

@@ -1,7 +1,7 @@
 -- A digit's number: each arm of the match is one row of hexOf, and each gap between the arms is outside all three.
-use Rattle.text.proofs.Laws.Strings.Digits.{under, over, hex-digit, hex-upper, hex-lower, hex-none}
 use mathlib.Core.Path.{sym}
 use native.Mathlib.Omega.{arith}
+use Rattle.text.proofs.Laws.Strings.Digits.{under, over, hex-digit, hex-upper, hex-lower, hex-none}
 use borrow.Author.Needs.{needs}
 use Rattle.text.proofs.strings.hex.Statement.{statement}
 use Rattle.text.proofs.strings.hex.Tie as tie

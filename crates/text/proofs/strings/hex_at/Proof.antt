@@ -1,8 +1,8 @@
 -- A digit is below 16, whatever the byte.
-use Rattle.text.proofs.Laws.Strings.Digits.{hex-small}
-use Rattle.text.specs.Decoding.{hexOf}
 use mathlib.Core.Path.{ap, _∙_}
 use native.Mathlib.Omega.{arith}
+use Rattle.text.specs.Decoding.{hexOf}
+use Rattle.text.proofs.Laws.Strings.Digits.{hex-small}
 use borrow.Author.Needs.{needs}
 use Rattle.text.proofs.strings.hex_at.Statement.{statement}
 use Rattle.text.proofs.strings.hex_at.Tie as tie

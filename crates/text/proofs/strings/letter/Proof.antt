@@ -1,7 +1,7 @@
 -- Each letter of the match is one row of letterOf; any other stands for itself.
-use Rattle.text.proofs.Laws.Strings.Digits.{letter-itself}
-use Rattle.text.specs.Decoding.{letterOf}
 use mathlib.Core.Path.{ap, sym, _∙_}
+use Rattle.text.specs.Decoding.{letterOf}
+use Rattle.text.proofs.Laws.Strings.Digits.{letter-itself}
 use borrow.Author.Needs.{needs}
 use Rattle.text.proofs.strings.letter.Statement.{statement}
 use Rattle.text.proofs.strings.letter.Tie as tie

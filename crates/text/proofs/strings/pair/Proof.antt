@@ -1,10 +1,10 @@
 -- No reverse solidus, no u, or a number out of the second halves: the first half h stands alone.
+use mathlib.Core.Path.{_∙_}
+use native.Mathlib.Omega.{arith}
+use Rattle.text.specs.Decoding.{textOf}
 use Rattle.text.proofs.Laws.Strings.Digits.{under, over}
 use Rattle.text.proofs.Laws.Strings.Reading.{paired-low, paired-apart}
 use Rattle.text.proofs.Laws.Strings.Steps.{pair-bare, pair-letter, pair-code}
-use Rattle.text.specs.Decoding.{textOf}
-use mathlib.Core.Path.{_∙_}
-use native.Mathlib.Omega.{arith}
 use borrow.Author.Needs.{needs}
 use Rattle.text.proofs.strings.pair.Statement.{statement}
 use Rattle.text.proofs.strings.pair.Tie as tie

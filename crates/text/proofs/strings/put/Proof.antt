@@ -1,6 +1,6 @@
 -- Past the end a store would change nothing, and none is made.
-use lib.Seq.{set-out}
 use mathlib.Core.Path.{sym}
+use lib.Seq.{set-out}
 use borrow.Author.Needs.{needs}
 use Rattle.text.proofs.strings.put.Statement.{statement}
 use Rattle.text.proofs.strings.put.Tie as tie

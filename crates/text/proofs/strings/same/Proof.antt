@@ -1,10 +1,10 @@
 -- Each turn strikes one character off the text and one byte off w.
+use mathlib.Core.Path.{sym, _∙_}
 use Prim.Native.Nat.{_-_}
+use native.Mathlib.Omega.{arith}
+use lib.ListN.{length}
 use Rattle.text.proofs.Laws.Strings.Runs.{rest-some, Match, match-start, match-lone, match-short, match-other}
 use Rattle.text.proofs.Laws.Strings.Runs.{match-next, match-end}
-use lib.ListN.{length}
-use mathlib.Core.Path.{sym, _∙_}
-use native.Mathlib.Omega.{arith}
 use borrow.Author.Needs.{needs}
 use Rattle.text.proofs.strings.same.Statement.{statement}
 use Rattle.text.proofs.strings.same.Tie as tie

@@ -2,13 +2,13 @@
 use mathlib.Core.List.{[], _∷_}
 use native.Mathlib.Omega.{arith}
 use Rattle.text.specs.Machine.{text}
-use borrow.Author.Needs.{needs}
-use Rattle.text.proofs.walk.entry.Statement.{statement}
-use Rattle.text.proofs.walk.entry.Tie as tie
 use Rattle.text.proofs.Laws.Reading.{past, fell}
 use Rattle.text.proofs.Laws.Places.{text-grows}
 use Rattle.text.proofs.Laws.Contents.Entries.{entry-inside, entry-headed, entry-done}
 use Rattle.text.proofs.Laws.Contents.{done-fall}
+use borrow.Author.Needs.{needs}
+use Rattle.text.proofs.walk.entry.Statement.{statement}
+use Rattle.text.proofs.walk.entry.Tie as tie
 
 add-string : tie.Need-add-string
 add-string c = let h = entry-inside (c .before .pre .is) in omega arith

@@ -1,10 +1,10 @@
 -- Behind the white space stands the closing bracket or the first element.
 use native.Mathlib.Omega.{arith}
+use Rattle.text.proofs.Laws.Contents.{stands-inside}
+use Rattle.text.proofs.Laws.Contents.Turns.{list-turn, turn-inside, turn-closed, turn-open}
 use borrow.Author.Needs.{needs}
 use Rattle.text.proofs.walk.first_element.Statement.{statement}
 use Rattle.text.proofs.walk.first_element.Tie as tie
-use Rattle.text.proofs.Laws.Contents.{stands-inside}
-use Rattle.text.proofs.Laws.Contents.Turns.{list-turn, turn-inside, turn-closed, turn-open}
 
 add-space : tie.Need-add-space
 add-space c = let h = stands-inside (c .before .pre .is) in omega arith

@@ -1,11 +1,11 @@
 -- Behind the white space stands the closing brace or the first member.
 use native.Mathlib.Omega.{arith}
-use borrow.Author.Needs.{needs}
-use Rattle.text.proofs.walk.first_member.Statement.{statement}
-use Rattle.text.proofs.walk.first_member.Tie as tie
 use Rattle.text.proofs.Laws.Contents.{stands-inside}
 use Rattle.text.proofs.Laws.Contents.Turns.{object-turn, turn-inside, turn-closed, turn-open}
 use Rattle.text.proofs.Laws.Contents.Entries.{leads-later}
+use borrow.Author.Needs.{needs}
+use Rattle.text.proofs.walk.first_member.Statement.{statement}
+use Rattle.text.proofs.walk.first_member.Tie as tie
 
 add-space : tie.Need-add-space
 add-space c = let h = stands-inside (c .before .pre .is) in omega arith

@@ -1,10 +1,10 @@
 -- Each kind of value has first bytes of its own.
 use mathlib.Core.Path.{refl}
 use Rattle.text.specs.declared.walk.Kind.the-variants as K
-use Rattle.text.proofs.walk.kind_at.Statement.{statement}
-use Rattle.text.proofs.walk.kind_at.Tie as tie
 use Rattle.text.proofs.Laws.Contents.Kinds.{kindBy, kind-is, kind-else}
 use Rattle.text.proofs.Laws.Contents.{stands-inside}
+use Rattle.text.proofs.walk.kind_at.Statement.{statement}
+use Rattle.text.proofs.walk.kind_at.Tie as tie
 
 shared-slice-read-b : tie.Need-shared-slice-read-b
 shared-slice-read-b c = stands-inside (c .before .pre .is)

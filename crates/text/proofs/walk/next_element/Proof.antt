@@ -1,10 +1,10 @@
 -- Behind the white space stands the closing bracket, or a comma and behind it the next element.
 use native.Mathlib.Omega.{arith}
+use Rattle.text.proofs.Laws.Contents.{rest-inside}
+use Rattle.text.proofs.Laws.Contents.Turns.{rest-turn, turn-inside, turn-closed, turn-open}
 use borrow.Author.Needs.{needs}
 use Rattle.text.proofs.walk.next_element.Statement.{statement}
 use Rattle.text.proofs.walk.next_element.Tie as tie
-use Rattle.text.proofs.Laws.Contents.{rest-inside}
-use Rattle.text.proofs.Laws.Contents.Turns.{rest-turn, turn-inside, turn-closed, turn-open}
 
 space-requires : tie.Need-space-requires
 space-requires c κs = rest-inside (c .before .pre .is)

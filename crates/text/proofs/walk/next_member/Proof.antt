@@ -1,11 +1,11 @@
 -- Behind the white space stands the closing brace, or a comma and behind it the next member.
 use native.Mathlib.Omega.{arith}
-use borrow.Author.Needs.{needs}
-use Rattle.text.proofs.walk.next_member.Statement.{statement}
-use Rattle.text.proofs.walk.next_member.Tie as tie
 use Rattle.text.proofs.Laws.Contents.{others-inside}
 use Rattle.text.proofs.Laws.Contents.Turns.{more-turn, turn-inside, turn-closed, turn-open}
 use Rattle.text.proofs.Laws.Contents.Entries.{leads-later}
+use borrow.Author.Needs.{needs}
+use Rattle.text.proofs.walk.next_member.Statement.{statement}
+use Rattle.text.proofs.walk.next_member.Tie as tie
 
 space-requires : tie.Need-space-requires
 space-requires c κs = others-inside (c .before .pre .is)

@@ -3,12 +3,12 @@ use mathlib.Core.List.{[], _∷_}
 use native.Mathlib.Omega.{arith}
 use Rattle.text.specs.Json.{levels}
 use Rattle.text.specs.Machine.{value}
-use borrow.Author.Needs.{needs}
-use Rattle.text.proofs.walk.past_value.Statement.{statement}
-use Rattle.text.proofs.walk.past_value.Tie as tie
 use Rattle.text.proofs.Laws.Reading.{past, fell}
 use Rattle.text.proofs.Laws.Places.{done-unique}
 use Rattle.text.proofs.Laws.Contents.{stands-done, stands-inside, done-fall}
+use borrow.Author.Needs.{needs}
+use Rattle.text.proofs.walk.past_value.Statement.{statement}
+use Rattle.text.proofs.walk.past_value.Tie as tie
 
 value-requires : tie.Need-value-requires
 value-requires c κs = let h = stands-inside (c .before .pre .is) in omega arith

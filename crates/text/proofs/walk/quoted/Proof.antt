@@ -2,12 +2,12 @@
 use mathlib.Core.List.{[], _∷_}
 use native.Mathlib.Omega.{arith}
 use Rattle.text.specs.Machine.{text}
-use borrow.Author.Needs.{needs}
-use Rattle.text.proofs.walk.quoted.Statement.{statement}
-use Rattle.text.proofs.walk.quoted.Tie as tie
 use Rattle.text.proofs.Laws.Reading.{past, fell}
 use Rattle.text.proofs.Laws.Places.{text-grows}
 use Rattle.text.proofs.Laws.Contents.{stands-inside, done-fall, text-done, text-raw}
+use borrow.Author.Needs.{needs}
+use Rattle.text.proofs.walk.quoted.Statement.{statement}
+use Rattle.text.proofs.walk.quoted.Tie as tie
 
 add-from : tie.Need-add-from
 add-from c = let h = stands-inside (c .before .pre .is) in omega arith

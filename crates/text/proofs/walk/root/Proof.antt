@@ -1,8 +1,8 @@
 -- The value stands where the first white space ends.
+use Rattle.text.proofs.Laws.Contents.{root-is}
 use borrow.Author.Needs.{needs}
 use Rattle.text.proofs.walk.root.Statement.{statement}
 use Rattle.text.proofs.walk.root.Tie as tie
-use Rattle.text.proofs.Laws.Contents.{root-is}
 
 space-requires : tie.Need-space-requires
 space-requires c κs = search needs

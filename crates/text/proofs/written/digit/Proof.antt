@@ -1,6 +1,6 @@
 -- The two rows of hexDigit.
-use borrow.Author.Tests.{le-leb, lt-leb}
 use native.Mathlib.Omega.{arith}
+use borrow.Author.Tests.{le-leb, lt-leb}
 use borrow.Author.Needs.{needs}
 use Rattle.text.proofs.written.digit.Statement.{statement}
 use Rattle.text.proofs.written.digit.Tie as tie

@@ -1,8 +1,8 @@
 -- Each turn takes a character's bytes off the room that is left.
 use Prim.Native.Nat.{_-_}
-use Rattle.text.proofs.Laws.Written.Runs.{Fitting, fitting-start, fitting-next, fitting-short, fitting-end}
-use lib.ListN.{length}
 use native.Mathlib.Omega.{arith}
+use lib.ListN.{length}
+use Rattle.text.proofs.Laws.Written.Runs.{Fitting, fitting-start, fitting-next, fitting-short, fitting-end}
 use borrow.Author.Needs.{needs}
 use Rattle.text.proofs.written.fits.Statement.{statement}
 use Rattle.text.proofs.written.fits.Tie as tie

@@ -1,8 +1,8 @@
 -- The form is put exactly if it fits.
-use Rattle.text.proofs.Laws.Putting.{put-none, puts-put}
-use Rattle.text.specs.Written.{written}
 use mathlib.Core.Path.{sym}
 use native.Mathlib.Omega.{arith}
+use Rattle.text.specs.Written.{written}
+use Rattle.text.proofs.Laws.Putting.{put-none, puts-put}
 use borrow.Author.Needs.{needs}
 use Rattle.text.proofs.written.put_char.Statement.{statement}
 use Rattle.text.proofs.written.put_char.Tie as tie

@@ -1,8 +1,8 @@
 -- Six stores, one behind the other; each of the last four is a digit of u.
-use Rattle.text.proofs.Laws.Putting.{six-stores}
-use Rattle.text.specs.Written.{coded}
-use lib.ListN.{length-set}
 use native.Mathlib.Omega.{arith}
+use lib.ListN.{length-set}
+use Rattle.text.specs.Written.{coded}
+use Rattle.text.proofs.Laws.Putting.{six-stores}
 use borrow.Author.Needs.{needs}
 use Rattle.text.proofs.written.put_code.Statement.{statement}
 use Rattle.text.proofs.written.put_code.Tie as tie

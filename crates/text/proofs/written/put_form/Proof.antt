@@ -1,11 +1,11 @@
 -- Each arm of the match puts the form that `written` gives for its range.
+use mathlib.Core.Path.{ap}
+use native.Mathlib.Omega.{arith}
+use lib.ListN.{length}
+use Rattle.text.specs.Written.{coded}
 use Rattle.text.proofs.Laws.Putting.{puts-as}
 use Rattle.text.proofs.Laws.Written.Forms.{written-quote, written-solidus, written-control, written-bare}
 use Rattle.text.proofs.Laws.Written.Forms.{written-coded, written-pair}
-use Rattle.text.specs.Written.{coded}
-use lib.ListN.{length}
-use mathlib.Core.Path.{ap}
-use native.Mathlib.Omega.{arith}
 use borrow.Author.Needs.{needs}
 use Rattle.text.proofs.written.put_form.Statement.{statement}
 use Rattle.text.proofs.written.put_form.Tie as tie

@@ -1,8 +1,8 @@
 -- The second escape is put behind the first.
+use native.Mathlib.Omega.{arith}
+use Rattle.text.specs.Written.{coded}
 use Rattle.text.proofs.Laws.Putting.{puts-append, puts-as, puts-room}
 use Rattle.text.proofs.Laws.Written.Forms.{written-pair}
-use Rattle.text.specs.Written.{coded}
-use native.Mathlib.Omega.{arith}
 use borrow.Author.Needs.{needs}
 use Rattle.text.proofs.written.put_pair.Statement.{statement}
 use Rattle.text.proofs.written.put_pair.Tie as tie

@@ -1,7 +1,7 @@
 -- Two stores, one behind the other.
-use Rattle.text.proofs.Laws.Putting.{two-stores}
-use lib.ListN.{length-set}
 use native.Mathlib.Omega.{arith}
+use lib.ListN.{length-set}
+use Rattle.text.proofs.Laws.Putting.{two-stores}
 use borrow.Author.Needs.{needs}
 use Rattle.text.proofs.written.put_two.Statement.{statement}
 use Rattle.text.proofs.written.put_two.Tie as tie

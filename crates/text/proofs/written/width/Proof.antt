@@ -1,9 +1,9 @@
 -- The length of each form, by the ranges of `written`.
-use Rattle.text.proofs.Laws.Written.Forms.{written-control, written-bare, written-coded, written-pair}
-use Rattle.text.specs.Written.{coded, written}
-use lib.ListN.{length}
 use mathlib.Core.Path.{ap, sym}
 use native.Mathlib.Omega.{arith}
+use lib.ListN.{length}
+use Rattle.text.specs.Written.{coded, written}
+use Rattle.text.proofs.Laws.Written.Forms.{written-control, written-bare, written-coded, written-pair}
 use Rattle.text.proofs.written.width.Statement.{statement}
 use Rattle.text.proofs.written.width.Tie as tie
 

@@ -1,10 +1,10 @@
 -- Each turn puts one character behind those that are put.
+use mathlib.Core.Path.{sym, _∙_}
 use Prim.Native.Nat.{_-_}
+use native.Mathlib.Omega.{arith}
+use lib.ListN.{length}
 use Rattle.text.proofs.Laws.Written.Runs.{Sofar, sofar-start, sofar-length, sofar-next, sofar-end, write-none}
 use borrow.Author.Tests.{leb-true, leb-false, not-true, not-false}
-use lib.ListN.{length}
-use mathlib.Core.Path.{sym, _∙_}
-use native.Mathlib.Omega.{arith}
 use borrow.Author.Needs.{needs}
 use Rattle.text.proofs.written.write_text.Statement.{statement}
 use Rattle.text.proofs.written.write_text.Tie as tie
