@@ -3,3 +3,4 @@ pub mod Limits
 pub mod Refusals
 pub mod Policy
 pub mod Forms
+pub mod Told

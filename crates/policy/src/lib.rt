@@ -1,2 +1,3 @@
 // Policies and records: layouts, limits, refusals and the decision. Knows nothing of logs and rooms.
+pub mod forms;
 pub mod refusals;

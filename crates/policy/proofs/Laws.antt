@@ -1,0 +1,6 @@
+pub mod Characters
+pub mod Forms
+pub mod Same
+pub mod Numbers
+pub mod Symbols
+pub mod Converting
