@@ -1,5 +1,6 @@
 pub mod Characters
 pub mod Forms
+pub mod Resources
 pub mod Same
 pub mod Numbers
 pub mod Symbols

@@ -1,7 +1,8 @@
 -- Told: what the answers of `forms` say, in the words of Forms.
---   toldNumber r    the reading that an answer tells            converted t run  the answer about an entry's symbols t, and the
---   withDigit n c   one digit more behind those that made n                      run behind it: the symbols at its beginning
---   Says w cs i r   the symbols from place i on: what the step r tells, and the symbols from its place on
+--   toldNumber r     the reading that an answer tells
+--   withDigit n c    one digit more behind those that made n
+--   converted t run  the answer about an entry of symbols t, and the run behind the call: the symbols at its beginning
+--   Says w cs i r    the symbols from place i on are the one that the step r tells, and those from its place on
 use mathlib.Core.Path.{_≡_}
 use mathlib.Core.Bool.{Bool, true, false}
 use mathlib.Core.List.{List}

@@ -414,8 +414,8 @@ fn escapes_right(cs: &[u32], wild: bool) -> bool
     true
 }
 
-// The symbols of an entry, in the place of the characters that say them. All escapes are looked at before the first store,
-// so that a run with a wrong one stays as it was.
+// The symbols of an entry, in the place of the characters that say them. All escapes are looked at before the first
+// store, so that a run with a wrong one stays as it was.
 pub fn symbols(run: &mut [u32], wild: bool) -> Converted
     ensures { λ r. ⌜ (r, now (run .exit)) ≡ converted (symbolsOf wild (now (run .entry))) (now (run .entry)) ⌝ }
 {

@@ -1,14 +1,12 @@
 -- What the tests of Forms on one character come to, from facts about its number.
-use mathlib.Core.Path.{_≡_, refl, ap, sym}
+use mathlib.Core.Path.{_≡_, refl, sym}
 use mathlib.Core.Bool.{Bool, true, false}
-use mathlib.Core.List.{List, [], _∷_}
+use mathlib.Core.List.{[], _∷_}
 use Prim.Native.Nat.{ℕ, _+_, _≤_, _<_}
 use native.Mathlib.Omega.{arith}
-use lib.Dec.{eqb}
-use borrow.Author.Tests.{eq-eqb, ne-eqb}
-use Rattle.text.specs.Base.{pick, within, oneOf}
-use Rattle.text.proofs.Laws.Tests.{inside, under, over}
-use Rattle.policy.specs.Policy.{star, any}
+use borrow.Author.Tests.{ne-eqb}
+use Rattle.text.specs.Base.{within, oneOf}
+use Rattle.text.proofs.Laws.Tests.{inside, over}
 use Rattle.policy.specs.Forms.{either, isAlphanumeric, isVendorChar, isNameChar, isKeyChar, wildcard, lower}
 
 -- ---- letters and digits

@@ -13,7 +13,6 @@ use Rattle.text.specs.Putting.{lay}
 use Rattle.text.proofs.Laws.Putting.{lay-length, lay-snoc}
 use Rattle.policy.specs.declared.forms.Step.{Step}
 use Rattle.policy.specs.declared.forms.Step.the-variants as S
-use Rattle.policy.specs.declared.forms.Converted.{Converted}
 use Rattle.policy.specs.declared.forms.Converted.the-variants as C
 use Rattle.policy.specs.Forms.{Reading, wrong, read, both, wildcard, ahead, symbol, symbolsBehind, symbolsOf}
 use Rattle.policy.specs.Told.{converted, isRead, Says}

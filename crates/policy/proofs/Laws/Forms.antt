@@ -1,18 +1,18 @@
--- The forms of texts, one character at a time.
+-- Actions, Sids and keys, one character at a time.
 use mathlib.Core.Path.{_≡_, refl, ap, sym, _∙_}
 use mathlib.Core.Bool.{Bool, true, false}
 use mathlib.Core.List.{List, [], _∷_}
-use Prim.Native.Nat.{ℕ, suc, _+_, _≤_, _<_}
+use Prim.Native.Nat.{ℕ, _+_, _≤_, _<_}
 use native.Mathlib.Numerals.{add-one}
 use native.Mathlib.Omega.{arith}
-use lib.Dec.{eqb, leb}
+use lib.Dec.{eqb}
 use lib.ListN.{length, getD, drop, length-drop, drop-of-length-le}
 use lib.Seq.{drop-cons}
 use borrow.Author.Tests.{eq-eqb, ne-eqb, lt-ltb, le-leb, lt-leb}
+use Rattle.text.specs.Base.{pick}
 use Rattle.policy.specs.Limits.{sidCharacters}
-use Rattle.policy.specs.Policy.{star}
-use Rattle.policy.specs.Forms.{all, same, isAlphanumeric, isVendorChar, isNameChar, isName, isVendorTail, isVendor}
-use Rattle.policy.specs.Forms.{isAction, colons, beginsArn, isArn, isResource, isSid, isKeyChar, isKey}
+use Rattle.policy.specs.Forms.{all, same, isAlphanumeric, isVendorChar, isNameChar, isName}
+use Rattle.policy.specs.Forms.{isVendorTail, isVendor, isAction, isSid, isKeyChar, isKey}
 
 -- a list from a place on
 pub drop-next : (cs : List ℕ) (i : ℕ) → i < length cs → drop i cs ≡ getD cs i 0 ∷ drop (i + 1) cs
@@ -80,24 +80,24 @@ unfolding isVendor
 vendor-stop [] h e = refl
 vendor-stop (c ∷ cs) h e = rw e
 
+never : (t : Bool) → pick t false false ≡ false
+never true = refl
+never false = refl
+
+plain : (t : Bool) → pick t true false ≡ t
+plain true = refl
+plain false = refl
+
 pub only-not : (cs : List ℕ) (x : ℕ) → (length cs ≡ 1 → ⊥) → same cs (x ∷ []) ≡ false
 unfolding same
 only-not [] x h = refl
 only-not (c ∷ []) x h = absurd (h refl)
 only-not (c ∷ d ∷ cs) x h = never (eqb c x)
-  where
-    never : (t : Bool) → Rattle.text.specs.Base.pick t false false ≡ false
-    never true = refl
-    never false = refl
 
 pub only-is : (cs : List ℕ) (x : ℕ) → length cs ≡ 1 → same cs (x ∷ []) ≡ eqb (getD cs 0 0) x
 unfolding same
 only-is [] x h = absurd (omega arith)
 only-is (c ∷ []) x h = plain (eqb c x)
-  where
-    plain : (t : Bool) → Rattle.text.specs.Base.pick t true false ≡ t
-    plain true = refl
-    plain false = refl
 only-is (c ∷ d ∷ cs) x h = absurd (omega arith)
 
 module _ (cs : List ℕ) where
@@ -136,82 +136,3 @@ pub key-none : (cs : List ℕ) → length cs ≡ 0 → isKey cs ≡ false
 unfolding isKey
 key-none [] h = refl
 key-none (c ∷ cs) h = absurd (omega arith)
-
--- ---- resources
-
-module _ (cs : List ℕ) (i : ℕ) where
-  pub colons-one : i < length cs → getD cs i 0 ≡ 58 → colons (drop i cs) ≡ suc (colons (drop (i + 1) cs))
-  unfolding colons
-  colons-one h e = ap colons (drop-next cs i h) ∙ rw (eq-eqb (getD cs i 0) 58 e)
-
-  pub colons-other : i < length cs → (getD cs i 0 ≡ 58 → ⊥) → colons (drop i cs) ≡ colons (drop (i + 1) cs)
-  unfolding colons
-  colons-other h n = ap colons (drop-next cs i h) ∙ rw (ne-eqb (getD cs i 0) 58 n)
-
-  pub colons-end : length cs ≤ i → colons (drop i cs) ≡ 0
-  unfolding colons
-  colons-end h = ap colons (drop-of-length-le cs h)
-
-module _ (cs : List ℕ) where
-  pub arn-first : (getD cs 0 0 ≡ 97 → ⊥) → false ≡ isArn cs
-  unfolding isArn beginsArn
-  arn-first a = rw (ne-eqb (getD cs 0 0) 97 a)
-
-  module _ (a : getD cs 0 0 ≡ 97) where
-    pub arn-second : (getD cs 1 0 ≡ 114 → ⊥) → false ≡ isArn cs
-    unfolding isArn beginsArn
-    arn-second b = rw (eq-eqb (getD cs 0 0) 97 a, ne-eqb (getD cs 1 0) 114 b)
-
-    module _ (b : getD cs 1 0 ≡ 114) where
-      pub arn-third : (getD cs 2 0 ≡ 110 → ⊥) → false ≡ isArn cs
-      unfolding isArn beginsArn
-      arn-third d = rw (eq-eqb (getD cs 0 0) 97 a, eq-eqb (getD cs 1 0) 114 b, ne-eqb (getD cs 2 0) 110 d)
-
-      module _ (d : getD cs 2 0 ≡ 110) where
-        pub arn-fourth : (getD cs 3 0 ≡ 58 → ⊥) → false ≡ isArn cs
-        unfolding isArn beginsArn
-        arn-fourth e =
-            rw (
-              eq-eqb (getD cs 0 0) 97 a,
-              eq-eqb (getD cs 1 0) 114 b,
-              eq-eqb (getD cs 2 0) 110 d,
-              ne-eqb (getD cs 3 0) 58 e,
-            )
-
-        pub arn-begun : getD cs 3 0 ≡ 58 → leb 5 (colons cs) ≡ isArn cs
-        unfolding isArn beginsArn
-        arn-begun e =
-            rw (
-              eq-eqb (getD cs 0 0) 97 a,
-              eq-eqb (getD cs 1 0) 114 b,
-              eq-eqb (getD cs 2 0) 110 d,
-              eq-eqb (getD cs 3 0) 58 e,
-            )
-
-  pub resource-star : same cs (star ∷ []) ≡ true → true ≡ isResource cs
-  unfolding isResource
-  resource-star e = rw e
-
-  pub resource-arn : same cs (star ∷ []) ≡ false → isArn cs ≡ isResource cs
-  unfolding isResource
-  resource-arn e = rw e
-
--- what the count keeps
-pub record Counting (cs : List ℕ) (n i : ℕ) : Type 0 where
-  pub is : n + colons (drop i cs) ≡ colons cs
-  pub low : n ≤ i
-
-pub counting-start : (cs : List ℕ) → Counting cs 0 0
-counting-start cs = record { is = omega arith; low = omega arith }
-
-module _ {cs : List ℕ} {n i : ℕ} (p : Counting cs n i) (h : i < length cs) where
-  pub counting-one : {m : ℕ} → getD cs i 0 ≡ 58 → m ≡ n + 1 → Counting cs m (i + 1)
-  counting-one e k =
-      record { is = omega (arith, p .is, colons-one cs i h e); low = omega (arith, p .low) }
-
-  pub counting-other : {m : ℕ} → (getD cs i 0 ≡ 58 → ⊥) → m ≡ n → Counting cs m (i + 1)
-  counting-other e k =
-      record { is = omega (arith, p .is, colons-other cs i h e); low = omega (arith, p .low) }
-
-pub counting-end : {cs : List ℕ} {n i : ℕ} → Counting cs n i → length cs ≤ i → n ≡ colons cs
-counting-end {cs} {n} {i} p h = omega (arith, p .is, colons-end cs i h)

@@ -1,23 +1,19 @@
 -- Symbols, one step at a time.
---   symbols-length   an entry has no more symbols than the characters that say them
 use mathlib.Core.Path.{_≡_, refl, ap, sym, _∙_}
 use mathlib.Core.Bool.{Bool, true, false}
-use mathlib.Core.List.{List, [], _∷_, _++_, append-assoc, append-nil, map}
+use mathlib.Core.List.{List, [], _∷_}
 use Prim.Native.Nat.{ℕ, zero, suc, _+_, _≤_, _<_}
 use native.Mathlib.Omega.{arith}
 use native.Mathlib.Decide.{decLt}
 use lib.Dec.{eqb}
-use lib.ListN.{length, getD, drop, set, length-append, length-drop, drop-of-length-le, List·getD-eq-default}
-use lib.Seq.{drop-drop, drop-nil, getD-drop}
+use lib.ListN.{length, getD, drop, drop-of-length-le, List·getD-eq-default}
+use lib.Seq.{drop-drop, getD-drop}
 use borrow.Author.Tests.{eq-eqb, ne-eqb}
-use Rattle.text.specs.Base.{pick, oneOf}
-use Rattle.text.specs.Putting.{lay}
-use Rattle.text.proofs.Laws.Putting.{lay-length, lay-snoc}
+use Rattle.text.specs.Base.{oneOf}
 use Rattle.policy.specs.declared.forms.Step.{Step}
 use Rattle.policy.specs.declared.forms.Step.the-variants as S
-use Rattle.policy.specs.declared.forms.Converted.the-variants as C
 use Rattle.policy.specs.Forms.{Reading, wrong, read, both, wildcard, symbol, ahead, symbolsBehind, symbolsOf}
-use Rattle.policy.specs.Told.{converted, isRead, Opened, onward, pastOf, Says}
+use Rattle.policy.specs.Told.{isRead, Opened, onward, pastOf, Says}
 use Rattle.policy.proofs.Laws.Forms.{drop-next}
 
 pub symbol-wild : (w : Bool) (c : ℕ) → w ≡ true → wildcard c ≡ symbol w c

@@ -11,7 +11,9 @@ sub-if1 : tie.Need-sub-if1
 sub-if1 c = search needs
 
 returns : tie.Need-returns
-returns c = sym (getD-drop (c .before .args .i) (c .before .args .cs .now) (c .before .args .k) 0 ∙ List·getD-eq-default (c .before .args .cs .now) 0 (omega arith))
+returns c =
+    let cs = c .before .args .cs .now in
+    sym (getD-drop (c .before .args .i) cs (c .before .args .k) 0 ∙ List·getD-eq-default cs 0 (omega arith))
 
 add-result : tie.Need-add-result
 add-result c = search needs
@@ -23,7 +25,11 @@ shared-slice-read-result : tie.Need-shared-slice-read-result
 shared-slice-read-result c = search needs
 
 returns-2 : tie.Need-returns-2
-returns-2 c = sym (getD-drop (c .before .before .args .i) (c .before .before .args .cs .now) (c .before .before .args .k) 0)
+returns-2 c =
+    let i = c .before .before .args .i in
+    let cs = c .before .before .args .cs .now in
+    let k = c .before .before .args .k in
+    sym (getD-drop i cs k 0)
 
 pub character-spec : {M : Type 1} → statement M
 character-spec =

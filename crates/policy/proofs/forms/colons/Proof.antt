@@ -3,7 +3,7 @@ use native.Mathlib.Omega.{arith}
 use Prim.Native.Nat.{_-_}
 use lib.ListN.{length}
 use mathlib.Core.Logic.{⊎-elim}
-use Rattle.policy.proofs.Laws.Forms.{Counting, counting-start, counting-one, counting-other, counting-end}
+use Rattle.policy.proofs.Laws.Resources.{Counting, counting-start, counting-one, counting-other, counting-end}
 use borrow.Author.Needs.{needs}
 use Rattle.policy.proofs.forms.colons.Statement.{statement}
 use Rattle.policy.proofs.forms.colons.Tie as tie
@@ -33,7 +33,10 @@ loop-less : tie.Need-loop-less Inv-loop μ-loop
 loop-less c = search needs
 
 loop-again : tie.Need-loop-again Inv-loop μ-loop
-loop-again c = ⊎-elim (λ w. counting-one (c .before .before .before .loop .inv) (c .before .before .loop-test .taken) (w .0 .taken) (w .1)) (λ w. counting-other (c .before .before .before .loop .inv) (c .before .before .loop-test .taken) (w .0 .left) (w .1)) (c .if1 .came)
+loop-again c =
+    let turn = c .before .before in
+    ⊎-elim (λ w. counting-one (turn .before .loop .inv) (turn .loop-test .taken) (w .0 .taken) (w .1))
+    (λ w. counting-other (turn .before .loop .inv) (turn .loop-test .taken) (w .0 .left) (w .1)) (c .if1 .came)
 
 returns : tie.Need-returns Inv-loop μ-loop
 returns c = counting-end (c .before .loop .inv) (c .loop-test .left)

@@ -29,16 +29,28 @@ enum-told : tie.Need-enum-told Inv-loop μ-loop
 enum-told c = search needs
 
 returns : tie.Need-returns Inv-loop μ-loop
-returns c = sym (c .before .before .before .before .loop .inv ∙ right-stop (c .before .before .symbol-at .ensures) (c .enum-told .given .1))
+returns c =
+    sym (c .before .before .before .before .loop .inv ∙ right-stop (c .before .before .symbol-at .ensures)
+    (c .enum-told .given .1))
 
 loop-less : tie.Need-loop-less Inv-loop μ-loop
-loop-less c = omega (arith, says-on (c .before .before .before .symbol-at .ensures) (c .before .past .given .1), c .before .before .before .before .loop-test .taken)
+loop-less c =
+    omega (
+      arith,
+      says-on (c .before .before .before .symbol-at .ensures) (c .before .past .given .1),
+      c .before .before .before .before .loop-test .taken,
+    )
 
 loop-again : tie.Need-loop-again Inv-loop μ-loop
-loop-again c = c .before .before .before .before .before .loop .inv ∙ right-next (c .before .before .before .symbol-at .ensures) (c .before .past .given .1)
+loop-again c =
+    c .before .before .before .before .before .loop .inv ∙ right-next (c .before .before .before .symbol-at .ensures)
+    (c .before .past .given .1)
 
 returns-2 : tie.Need-returns-2 Inv-loop μ-loop
-returns-2 c = sym (c .before .loop .inv ∙ right-end (c .before .before .before .args .wild) (c .before .before .before .args .cs .now) (c .before .loop .i) (c .loop-test .left))
+returns-2 c =
+    let wild = c .before .before .before .args .wild in
+    let cs = c .before .before .before .args .cs .now in
+    sym (c .before .loop .inv ∙ right-end wild cs (c .before .loop .i) (c .loop-test .left))
 
 pub escapes-right-spec : {M : Type 1} → statement M
 escapes-right-spec =

@@ -15,7 +15,8 @@ is-vendor-requires : tie.Need-is-vendor-requires
 is-vendor-requires c κs = search needs
 
 returns-2 : tie.Need-returns-2
-returns-2 c = c .is-vendor .ensures ∙ action-vendor _ (sym (c .before .before .is-only .ensures) ∙ c .before .if1 .left)
+returns-2 c =
+    c .is-vendor .ensures ∙ action-vendor _ (sym (c .before .before .is-only .ensures) ∙ c .before .if1 .left)
 
 pub is-action-spec : {M : Type 1} → statement M
 is-action-spec = tie.close (tie.spec is-only-requires returns is-vendor-requires returns-2)

@@ -31,7 +31,9 @@ unfolding isAlphanumeric isKeyChar oneOf
 returns-5 c = ap isKeyChar (sym (c .match .keys5))
 
 returns-6 : tie.Need-returns-6
-returns-6 c = let r = c .before .match .rest in c .is-alphanumeric .ensures ∙ key-rest _ (r .0 .0 .0 .0 .1) (r .0 .0 .0 .1) (r .0 .0 .1) (r .0 .1) (r .1)
+returns-6 c =
+    let r = c .before .match .rest in
+    c .is-alphanumeric .ensures ∙ key-rest _ (r .0 .0 .0 .0 .1) (r .0 .0 .0 .1) (r .0 .0 .1) (r .0 .1) (r .1)
 
 pub is-key-char-spec : {M : Type 1} → statement M
 is-key-char-spec =

@@ -31,7 +31,11 @@ is-name-char-requires : tie.Need-is-name-char-requires Inv-loop μ-loop
 is-name-char-requires c κs = search needs
 
 returns-2 : tie.Need-returns-2 Inv-loop μ-loop
-returns-2 c = sym (c .before .before .before .before .loop .inv ∙ all-stop isNameChar (c .before .before .before .before .before .before .before .args .cs .now) (c .before .before .before .before .loop .i) (c .before .before .before .loop-test .taken) (sym (c .before .is-name-char .ensures) ∙ not-true _ (c .if2 .taken)))
+returns-2 c =
+    let turn = c .before .before .before in
+    let cs = turn .before .before .before .before .args .cs .now in
+    sym (turn .before .loop .inv ∙ all-stop isNameChar cs (turn .before .loop .i) (turn .loop-test .taken)
+    (sym (c .before .is-name-char .ensures) ∙ not-true _ (c .if2 .taken)))
 
 add-i : tie.Need-add-i Inv-loop μ-loop
 add-i c = search needs
@@ -40,10 +44,16 @@ loop-less : tie.Need-loop-less Inv-loop μ-loop
 loop-less c = search needs
 
 loop-again : tie.Need-loop-again Inv-loop μ-loop
-loop-again c = c .before .before .before .before .loop .inv ∙ all-next isNameChar (c .before .before .before .before .before .before .before .args .cs .now) (c .before .before .before .before .loop .i) (c .before .before .before .loop-test .taken) (sym (c .before .is-name-char .ensures) ∙ not-false _ (c .if2 .left))
+loop-again c =
+    let turn = c .before .before .before in
+    let cs = turn .before .before .before .before .args .cs .now in
+    turn .before .loop .inv ∙ all-next isNameChar cs (turn .before .loop .i) (turn .loop-test .taken)
+    (sym (c .before .is-name-char .ensures) ∙ not-false _ (c .if2 .left))
 
 returns-3 : tie.Need-returns-3 Inv-loop μ-loop
-returns-3 c = sym (c .before .loop .inv ∙ all-end isNameChar (c .before .before .before .before .args .cs .now) (c .before .loop .i) (c .loop-test .left))
+returns-3 c =
+    let cs = c .before .before .before .before .args .cs .now in
+    sym (c .before .loop .inv ∙ all-end isNameChar cs (c .before .loop .i) (c .loop-test .left))
 
 pub is-name-spec : {M : Type 1} → statement M
 is-name-spec =

@@ -14,7 +14,9 @@ returns : tie.Need-returns
 returns c = name-wild (c .before .args .c) (among (42 ∷ 63 ∷ []) _ (c .match .keys1))
 
 returns-2 : tie.Need-returns-2
-returns-2 c = c .is-vendor-char .ensures ∙ name-rest (c .before .before .args .c) (outside (42 ∷ 63 ∷ []) _ (c .before .match .rest .1))
+returns-2 c =
+    let x = c .before .before .args .c in
+    c .is-vendor-char .ensures ∙ name-rest x (outside (42 ∷ 63 ∷ []) _ (c .before .match .rest .1))
 
 pub is-name-char-spec : {M : Type 1} → statement M
 is-name-char-spec = tie.close (tie.spec is-vendor-char-requires returns returns-2)

@@ -1,5 +1,5 @@
 -- The wildcard alone, or the beginning and the colons.
-use Rattle.policy.proofs.Laws.Forms.{resource-star, resource-arn}
+use Rattle.policy.proofs.Laws.Resources.{resource-star, resource-arn}
 use mathlib.Core.Path.{sym, _∙_}
 use borrow.Author.Needs.{needs}
 use Rattle.policy.proofs.forms.is_resource.Statement.{statement}

@@ -34,7 +34,11 @@ is-alphanumeric-requires : tie.Need-is-alphanumeric-requires Inv-loop μ-loop
 is-alphanumeric-requires c κs = search needs
 
 returns-3 : tie.Need-returns-3 Inv-loop μ-loop
-returns-3 c = sym (c .before .before .before .before .loop .inv ∙ all-stop isAlphanumeric (c .before .before .before .before .before .before .before .before .args .cs .now) (c .before .before .before .before .loop .i) (c .before .before .before .loop-test .taken) (sym (c .before .is-alphanumeric .ensures) ∙ not-true _ (c .if3 .taken)))
+returns-3 c =
+    let turn = c .before .before .before in
+    let cs = turn .before .before .before .before .before .args .cs .now in
+    sym (turn .before .loop .inv ∙ all-stop isAlphanumeric cs (turn .before .loop .i) (turn .loop-test .taken)
+    (sym (c .before .is-alphanumeric .ensures) ∙ not-true _ (c .if3 .taken)))
 
 add-i : tie.Need-add-i Inv-loop μ-loop
 add-i c = search needs
@@ -43,10 +47,16 @@ loop-less : tie.Need-loop-less Inv-loop μ-loop
 loop-less c = search needs
 
 loop-again : tie.Need-loop-again Inv-loop μ-loop
-loop-again c = c .before .before .before .before .loop .inv ∙ all-next isAlphanumeric (c .before .before .before .before .before .before .before .before .args .cs .now) (c .before .before .before .before .loop .i) (c .before .before .before .loop-test .taken) (sym (c .before .is-alphanumeric .ensures) ∙ not-false _ (c .if3 .left))
+loop-again c =
+    let turn = c .before .before .before in
+    let cs = turn .before .before .before .before .before .args .cs .now in
+    turn .before .loop .inv ∙ all-next isAlphanumeric cs (turn .before .loop .i) (turn .loop-test .taken)
+    (sym (c .before .is-alphanumeric .ensures) ∙ not-false _ (c .if3 .left))
 
 returns-4 : tie.Need-returns-4 Inv-loop μ-loop
-returns-4 c = sym (c .before .loop .inv ∙ all-end isAlphanumeric (c .before .before .before .before .before .args .cs .now) (c .before .loop .i) (c .loop-test .left))
+returns-4 c =
+    let cs = c .before .before .before .before .before .args .cs .now in
+    sym (c .before .loop .inv ∙ all-end isAlphanumeric cs (c .before .loop .i) (c .loop-test .left))
 
 pub is-sid-spec : {M : Type 1} → statement M
 is-sid-spec =

@@ -23,7 +23,9 @@ unfolding isAlphanumeric isVendorChar oneOf
 returns-3 c = ap isVendorChar (sym (c .match .keys3))
 
 returns-4 : tie.Need-returns-4
-returns-4 c = let r = c .before .match .rest in c .is-alphanumeric .ensures ∙ vendor-rest _ (r .0 .0 .1) (r .0 .1) (r .1)
+returns-4 c =
+    let r = c .before .match .rest in
+    c .is-alphanumeric .ensures ∙ vendor-rest _ (r .0 .0 .1) (r .0 .1) (r .1)
 
 pub is-vendor-char-spec : {M : Type 1} → statement M
 is-vendor-char-spec =

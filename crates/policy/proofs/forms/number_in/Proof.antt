@@ -2,7 +2,7 @@
 use Prim.Native.Nat.{_-_}
 use lib.ListN.{length}
 use mathlib.Core.Path.{ap, sym, _∙_}
-use Rattle.policy.specs.Told.{toldNumber, withDigit}
+use Rattle.policy.specs.Told.{toldNumber}
 use Rattle.policy.proofs.Laws.Numbers.{number-none, number-zero, number-leading, Counted, counted-start}
 use Rattle.policy.proofs.Laws.Numbers.{counted-next, counted-stop, counted-end}
 use borrow.Author.Needs.{needs}
@@ -22,13 +22,19 @@ shared-slice-read-if2 : tie.Need-shared-slice-read-if2 Inv-loop μ-loop
 shared-slice-read-if2 c = search needs
 
 returns-2 : tie.Need-returns-2 Inv-loop μ-loop
-returns-2 c = sym (number-zero (c .before .before .before .before .before .args .cs .now) (c .if3 .taken) (c .before .if2 .taken))
+returns-2 c =
+    let cs = c .before .before .before .before .before .args .cs .now in
+    sym (number-zero cs (c .if3 .taken) (c .before .if2 .taken))
 
 returns-3 : tie.Need-returns-3 Inv-loop μ-loop
-returns-3 c = sym (number-leading (c .before .before .before .before .before .args .cs .now) (c .before .before .before .if1 .left) (c .if3 .left) (c .before .if2 .taken))
+returns-3 c =
+    let cs = c .before .before .before .before .before .args .cs .now in
+    sym (number-leading cs (c .before .before .before .if1 .left) (c .if3 .left) (c .before .if2 .taken))
 
 loop-holds : tie.Need-loop-holds Inv-loop μ-loop
-loop-holds c = counted-start (c .before .before .before .before .args .cs .now) (c .before .before .if1 .left) (c .if2 .left)
+loop-holds c =
+    let cs = c .before .before .before .before .args .cs .now in
+    counted-start cs (c .before .before .if1 .left) (c .if2 .left)
 
 mul-with-digit : tie.Need-mul-with-digit Inv-loop μ-loop
 mul-with-digit c = search needs
@@ -46,7 +52,10 @@ enum-told : tie.Need-enum-told Inv-loop μ-loop
 enum-told c = search needs
 
 returns-4 : tie.Need-returns-4 Inv-loop μ-loop
-returns-4 c = counted-stop (c .before .before .before .before .before .loop .inv) (c .before .before .before .before .loop-test .taken) (ap toldNumber (sym (c .enum-told .given .1)) ∙ c .before .before .with-digit .ensures)
+returns-4 c =
+    let turn = c .before .before .before .before in
+    counted-stop (turn .before .loop .inv) (turn .loop-test .taken)
+    (ap toldNumber (sym (c .enum-told .given .1)) ∙ c .before .before .with-digit .ensures)
 
 add-i : tie.Need-add-i Inv-loop μ-loop
 add-i c = search needs
@@ -55,7 +64,10 @@ loop-less : tie.Need-loop-less Inv-loop μ-loop
 loop-less c = search needs
 
 loop-again : tie.Need-loop-again Inv-loop μ-loop
-loop-again c = counted-next (c .before .before .before .before .before .before .loop .inv) (c .before .before .before .before .before .loop-test .taken) (ap toldNumber (sym (c .before .m .given .1)) ∙ c .before .before .before .with-digit .ensures)
+loop-again c =
+    let turn = c .before .before .before .before .before in
+    counted-next (turn .before .loop .inv) (turn .loop-test .taken)
+    (ap toldNumber (sym (c .before .m .given .1)) ∙ c .before .before .before .with-digit .ensures)
 
 returns-5 : tie.Need-returns-5 Inv-loop μ-loop
 returns-5 c = counted-end (c .before .loop .inv) (c .loop-test .left)

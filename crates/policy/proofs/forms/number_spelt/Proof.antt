@@ -22,13 +22,19 @@ shared-slice-read-if2 : tie.Need-shared-slice-read-if2 Inv-loop μ-loop
 shared-slice-read-if2 c = search needs
 
 returns-2 : tie.Need-returns-2 Inv-loop μ-loop
-returns-2 c = sym (number-zero (c .before .before .before .before .before .args .w .now) (c .if3 .taken) (c .before .if2 .taken))
+returns-2 c =
+    let w = c .before .before .before .before .before .args .w .now in
+    sym (number-zero w (c .if3 .taken) (c .before .if2 .taken))
 
 returns-3 : tie.Need-returns-3 Inv-loop μ-loop
-returns-3 c = sym (number-leading (c .before .before .before .before .before .args .w .now) (c .before .before .before .if1 .left) (c .if3 .left) (c .before .if2 .taken))
+returns-3 c =
+    let w = c .before .before .before .before .before .args .w .now in
+    sym (number-leading w (c .before .before .before .if1 .left) (c .if3 .left) (c .before .if2 .taken))
 
 loop-holds : tie.Need-loop-holds Inv-loop μ-loop
-loop-holds c = counted-start (c .before .before .before .before .args .w .now) (c .before .before .if1 .left) (c .if2 .left)
+loop-holds c =
+    let w = c .before .before .before .before .args .w .now in
+    counted-start w (c .before .before .if1 .left) (c .if2 .left)
 
 shared-slice-read-wide : tie.Need-shared-slice-read-wide Inv-loop μ-loop
 shared-slice-read-wide c = search needs
@@ -46,7 +52,11 @@ enum-told : tie.Need-enum-told Inv-loop μ-loop
 enum-told c = search needs
 
 returns-4 : tie.Need-returns-4 Inv-loop μ-loop
-returns-4 c = counted-stop (c .before .before .before .before .before .before .loop .inv) (c .before .before .before .before .before .loop-test .taken) (ap toldNumber (sym (c .enum-told .given .1)) ∙ c .before .before .with-digit .ensures ∙ ap (withDigit (c .before .before .before .before .before .before .loop .n)) (c .before .before .before .wide .ensures))
+returns-4 c =
+    let turn = c .before .before .before .before .before in
+    counted-stop (turn .before .loop .inv) (turn .loop-test .taken) (ap toldNumber (sym (c .enum-told .given .1))
+    ∙ c .before .before .with-digit .ensures ∙ ap (withDigit (turn .before .loop .n))
+    (c .before .before .before .wide .ensures))
 
 add-i : tie.Need-add-i Inv-loop μ-loop
 add-i c = search needs
@@ -55,7 +65,11 @@ loop-less : tie.Need-loop-less Inv-loop μ-loop
 loop-less c = search needs
 
 loop-again : tie.Need-loop-again Inv-loop μ-loop
-loop-again c = counted-next (c .before .before .before .before .before .before .before .loop .inv) (c .before .before .before .before .before .before .loop-test .taken) (ap toldNumber (sym (c .before .m .given .1)) ∙ c .before .before .before .with-digit .ensures ∙ ap (withDigit (c .before .before .before .before .before .before .before .loop .n)) (c .before .before .before .before .wide .ensures))
+loop-again c =
+    let turn = c .before .before .before .before .before .before in
+    counted-next (turn .before .loop .inv) (turn .loop-test .taken) (ap toldNumber (sym (c .before .m .given .1))
+    ∙ c .before .before .before .with-digit .ensures ∙ ap (withDigit (turn .before .loop .n))
+    (c .before .before .before .before .wide .ensures))
 
 returns-5 : tie.Need-returns-5 Inv-loop μ-loop
 returns-5 c = counted-end (c .before .loop .inv) (c .loop-test .left)

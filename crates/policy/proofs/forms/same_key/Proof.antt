@@ -1,8 +1,7 @@
 -- No pair of characters passed differs in small letters.
-use mathlib.Core.Path.{_≡_, sym, _∙_}
+use mathlib.Core.Path.{sym, _∙_}
 use Prim.Native.Nat.{_-_}
-use lib.ListN.{length, drop}
-use Rattle.policy.specs.Forms.{sameKey}
+use lib.ListN.{length}
 use Rattle.policy.proofs.Laws.Same.{Keys, keys-start, keys-next, keys-stop, keys-end, key-lengths}
 use borrow.Author.Needs.{needs}
 use Rattle.policy.proofs.forms.same_key.Statement.{statement}
@@ -15,7 +14,10 @@ abbrev μ-loop : tie.MeasureT-loop
 μ-loop a b i₀ i = length a - i
 
 returns : tie.Need-returns Inv-loop μ-loop
-returns c = sym (key-lengths (c .before .before .before .args .a .now) (c .before .before .before .args .b .now) (c .if1 .taken))
+returns c =
+    let a = c .before .before .before .args .a .now in
+    let b = c .before .before .before .args .b .now in
+    sym (key-lengths a b (c .if1 .taken))
 
 loop-holds : tie.Need-loop-holds Inv-loop μ-loop
 loop-holds c = keys-start _ _ (c .if1 .left)
@@ -39,7 +41,10 @@ lower-requires-2 : tie.Need-lower-requires-2 Inv-loop μ-loop
 lower-requires-2 c κs = search needs
 
 returns-2 : tie.Need-returns-2 Inv-loop μ-loop
-returns-2 c = sym (keys-stop (c .before .before .before .before .before .before .loop .inv) (c .before .before .before .before .before .loop-test .taken) (λ e. c .if2 .taken (c .before .before .before .lower .ensures ∙ e ∙ sym (c .before .lower2 .ensures))))
+returns-2 c =
+    let turn = c .before .before .before .before .before in
+    sym (keys-stop (turn .before .loop .inv) (turn .loop-test .taken)
+    (λ e. c .if2 .taken (c .before .before .before .lower .ensures ∙ e ∙ sym (c .before .lower2 .ensures))))
 
 add-i : tie.Need-add-i Inv-loop μ-loop
 add-i c = search needs
@@ -48,7 +53,10 @@ loop-less : tie.Need-loop-less Inv-loop μ-loop
 loop-less c = search needs
 
 loop-again : tie.Need-loop-again Inv-loop μ-loop
-loop-again c = keys-next (c .before .before .before .before .before .before .loop .inv) (c .before .before .before .before .before .loop-test .taken) (sym (c .before .before .before .lower .ensures) ∙ c .if2 .left ∙ c .before .lower2 .ensures)
+loop-again c =
+    let turn = c .before .before .before .before .before in
+    keys-next (turn .before .loop .inv) (turn .loop-test .taken)
+    (sym (c .before .before .before .lower .ensures) ∙ c .if2 .left ∙ c .before .lower2 .ensures)
 
 returns-3 : tie.Need-returns-3 Inv-loop μ-loop
 returns-3 c = sym (keys-end (c .before .loop .inv) (c .loop-test .left))

@@ -34,7 +34,12 @@ shared-slice-read-if2-2 : tie.Need-shared-slice-read-if2-2 Inv-loop μ-loop
 shared-slice-read-if2-2 c = search needs
 
 returns-2 : tie.Need-returns-2 Inv-loop μ-loop
-returns-2 c = sym (c .before .before .before .before .loop .inv ∙ same-stop (c .before .before .before .before .before .before .args .a .now) (c .before .before .before .before .before .before .args .b .now) (c .before .before .before .before .loop .i) (c .before .before .before .loop-test .taken) (omega arith) (c .if2 .taken))
+returns-2 c =
+    let turn = c .before .before .before in
+    let a = turn .before .before .before .args .a .now in
+    let b = turn .before .before .before .args .b .now in
+    sym (turn .before .loop .inv ∙ same-stop a b (turn .before .loop .i) (turn .loop-test .taken) (omega arith)
+    (c .if2 .taken))
 
 add-i : tie.Need-add-i Inv-loop μ-loop
 add-i c = search needs
@@ -43,10 +48,18 @@ loop-less : tie.Need-loop-less Inv-loop μ-loop
 loop-less c = search needs
 
 loop-again : tie.Need-loop-again Inv-loop μ-loop
-loop-again c = c .before .before .before .before .loop .inv ∙ same-next (c .before .before .before .before .before .before .args .a .now) (c .before .before .before .before .before .before .args .b .now) (c .before .before .before .before .loop .i) (c .before .before .before .loop-test .taken) (omega arith) (c .if2 .left)
+loop-again c =
+    let turn = c .before .before .before in
+    let a = turn .before .before .before .args .a .now in
+    let b = turn .before .before .before .args .b .now in
+    turn .before .loop .inv ∙ same-next a b (turn .before .loop .i) (turn .loop-test .taken) (omega arith)
+    (c .if2 .left)
 
 returns-3 : tie.Need-returns-3 Inv-loop μ-loop
-returns-3 c = sym (c .before .loop .inv ∙ same-end (c .before .before .before .args .a .now) (c .before .before .before .args .b .now) (c .before .loop .i) (c .loop-test .left) (omega arith))
+returns-3 c =
+    let a = c .before .before .before .args .a .now in
+    let b = c .before .before .before .args .b .now in
+    sym (c .before .loop .inv ∙ same-end a b (c .before .loop .i) (c .loop-test .left) (omega arith))
 
 pub same-text-spec : {M : Type 1} → statement M
 same-text-spec =

@@ -9,7 +9,10 @@ wildcard-requires : tie.Need-wildcard-requires
 wildcard-requires c κs = search needs
 
 returns : tie.Need-returns
-returns c = c .wildcard .ensures ∙ symbol-wild (c .before .before .args .wild) (c .before .before .args .c) (c .before .if1 .taken)
+returns c =
+    let wild = c .before .before .args .wild in
+    let x = c .before .before .args .c in
+    c .wildcard .ensures ∙ symbol-wild wild x (c .before .if1 .taken)
 
 returns-2 : tie.Need-returns-2
 returns-2 c = symbol-plain (c .before .args .wild) (c .before .args .c) (c .if1 .left)

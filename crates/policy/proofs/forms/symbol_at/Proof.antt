@@ -19,7 +19,11 @@ add-t10 : tie.Need-add-t10
 add-t10 c = search needs
 
 returns : tie.Need-returns
-returns c = says-plain (c .before .before .before .before .args .wild) (c .before .before .before .before .args .cs .now) (c .before .before .before .before .args .i) (c .before .before .before .before .pre) (c .before .if1 .taken) (c .symbol .ensures)
+returns c =
+    let wild = c .before .before .before .before .args .wild in
+    let cs = c .before .before .before .before .args .cs .now in
+    let i = c .before .before .before .before .args .i in
+    says-plain wild cs i (c .before .before .before .before .pre) (c .before .if1 .taken) (c .symbol .ensures)
 
 character-requires : tie.Need-character-requires
 character-requires c κs = omega arith
@@ -31,10 +35,18 @@ add-t12 : tie.Need-add-t12
 add-t12 c = search needs
 
 returns-2 : tie.Need-returns-2
-returns-2 c = says-dollar (c .before .before .before .before .before .before .args .wild) (c .before .before .before .before .before .before .args .cs .now) (c .before .before .before .before .before .before .args .i) (c .before .before .before .before .before .before .pre) (λ e. c .before .if2 .taken (c .before .before .character .ensures ∙ e)) (c .symbol2 .ensures)
+returns-2 c =
+    let wild = c .before .before .before .before .before .before .args .wild in
+    let cs = c .before .before .before .before .before .before .args .cs .now in
+    let i = c .before .before .before .before .before .before .args .i in
+    says-dollar wild cs i (c .before .before .before .before .before .before .pre)
+    (λ e. c .before .if2 .taken (c .before .before .character .ensures ∙ e)) (c .symbol2 .ensures)
 
 escape-at-requires : tie.Need-escape-at-requires
-escape-at-requires c κs = record { inside = c .before .before .before .before .before .pre; dollar = c .before .before .if1 .left; brace = sym (c .before .character .ensures) ∙ c .if2 .left }
+escape-at-requires c κs =
+    let brace = sym (c .before .character .ensures) ∙ c .if2 .left in
+    record
+    { inside = c .before .before .before .before .before .pre; dollar = c .before .before .if1 .left; brace = brace }
 
 returns-3 : tie.Need-returns-3
 returns-3 c = c .escape-at .ensures

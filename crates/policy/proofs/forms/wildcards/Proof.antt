@@ -26,7 +26,9 @@ wildcard-requires : tie.Need-wildcard-requires Inv-loop μ-loop
 wildcard-requires c κs = search needs
 
 mul-run : tie.Need-mul-run Inv-loop μ-loop
-mul-run c = record { fits = omega (arith, turned-same (c .before .before .before .loop .inv), c .before .before .loop-test .taken) }
+mul-run c =
+    let turn = c .before .before in
+    record { fits = omega (arith, turned-same (turn .before .loop .inv), turn .loop-test .taken) }
 
 slice-write-run : tie.Need-slice-write-run Inv-loop μ-loop
 slice-write-run c = search needs

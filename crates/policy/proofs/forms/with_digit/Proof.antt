@@ -15,16 +15,25 @@ add-m : tie.Need-add-m
 add-m c = search needs
 
 returns : tie.Need-returns
-returns c = digit-more (c .before .before .before .args .n) (c .before .before .before .args .c) (c .before .before .if1 .left) (c .before .if2 .taken) (c .if3 .taken)
+returns c =
+    let n = c .before .before .before .args .n in
+    let x = c .before .before .before .args .c in
+    digit-more n x (c .before .before .if1 .left) (c .before .if2 .taken) (c .if3 .taken)
 
 returns-2 : tie.Need-returns-2
-returns-2 c = digit-great (c .before .before .before .args .n) (c .before .before .before .args .c) (c .before .before .if1 .left) (c .before .if2 .taken) (c .if3 .left)
+returns-2 c =
+    let n = c .before .before .before .args .n in
+    let x = c .before .before .before .args .c in
+    digit-great n x (c .before .before .if1 .left) (c .before .if2 .taken) (c .if3 .left)
 
 returns-3 : tie.Need-returns-3
 returns-3 c = digit-none (c .before .args .n) (c .before .args .c) (under 48 57 (c .before .args .c) (c .if1 .taken))
 
 returns-4 : tie.Need-returns-4
-returns-4 c = digit-none (c .before .before .args .n) (c .before .before .args .c) (over 48 57 (c .before .before .args .c) (c .if2 .left))
+returns-4 c =
+    let n = c .before .before .args .n in
+    let x = c .before .before .args .c in
+    digit-none n x (over 48 57 x (c .if2 .left))
 
 pub with-digit-spec : {M : Type 1} → statement M
 with-digit-spec = tie.close (tie.spec mul-m cast-m add-m returns returns-2 returns-3 returns-4)
