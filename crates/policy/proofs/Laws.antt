@@ -1,2 +1,9 @@
 pub mod Slots
 pub mod Walking
+pub mod Characters
+pub mod Forms
+pub mod Resources
+pub mod Same
+pub mod Numbers
+pub mod Symbols
+pub mod Converting

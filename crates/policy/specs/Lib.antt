@@ -9,3 +9,4 @@ pub mod Slots
 pub mod PolicyLayout
 pub mod RecordLayout
 pub mod Held
+pub mod Told
