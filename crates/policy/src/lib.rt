@@ -1,4 +1,4 @@
 // Policies and records: layouts, limits, refusals and the decision. Knows nothing of logs and rooms.
-pub mod members;
 pub mod forms;
+pub mod members;
 pub mod refusals;

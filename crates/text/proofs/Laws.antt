@@ -3,6 +3,7 @@ pub mod Tests
 pub mod Reading
 pub mod Moves
 pub mod Places
+pub mod Plain
 pub mod Values
 pub mod Parts
 pub mod Eating

@@ -4,10 +4,11 @@
 --   Done s xs a e       they are done at e
 --   Falls s xs a v      they give the whole text the verdict v, which is not Whole
 use mathlib.Core.Path.{_≡_}
+use mathlib.Core.Bool.{Bool, true, false}
 use mathlib.Core.List.{List, [], _∷_, _++_}
 use Prim.Native.Nat.{ℕ, _-_, _≤_, _<_}
 use lib.ListN.{length}
-use Rattle.text.specs.Machine.{Item, ws, value, first, next, inner, from}
+use Rattle.text.specs.Machine.{Item, pass, go, ws, value, first, next, inner, move, from}
 use Rattle.text.specs.declared.scan.Verdict.{Verdict}
 use Rattle.text.specs.declared.scan.Verdict.the-variants.{Whole, Breaks, Deep}
 use Rattle.text.specs.declared.scan.Part.{Part}
@@ -35,6 +36,11 @@ Fault Deep = Unit {0}
 pub record Falls (s : List ℕ) (xs : List Item) (a : ℕ) (v : Verdict) : Type 0 where
   pub fault : Fault v
   pub goes : (k : List Item) → from (xs ++ k) s a ≡ v
+
+-- what the test for white space told of a byte
+pub record Blank (b : ℕ) (t : Bool) : Type 0 where
+  pub is : t ≡ true → move ws b ≡ go (ws ∷ [])
+  pub is-not : t ≡ false → move ws b ≡ pass
 
 -- a part is read so far, or fails
 abbrev pub Goes : List ℕ → List Item → ℕ → Part → Type 0

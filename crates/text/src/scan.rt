@@ -1,12 +1,13 @@
 // The scan: is a text JSON (RFC 8259, in UTF-8) of at most sixteen levels, and if not, where does it break?
 // Each function promises what the reader of specs/Machine.antt does with the items that it reads.
 ghost use mathlib.Core.List.{[], _∷_, map};
+ghost use mathlib.Core.Bool.{false};
 ghost use mathlib.Core.Path.{_≡_};
-ghost use Prim.Native.Nat.{_≤_};
+ghost use Prim.Native.Nat.{_+_, _≤_};
 ghost use lib.ListN.{length, replicate};
 ghost use Rattle.text.specs.Base.{At};
-ghost use Rattle.text.specs.Machine.{ws, byte, range, hex, text, char, escape, digits, digit, integer, fraction, exponent, sign, value, before, close, verdict};
-ghost use Rattle.text.specs.Reading.{Leads, Done, Goes, Begins, Opens, Follows};
+ghost use Rattle.text.specs.Machine.{ws, byte, range, hex, text, char, move, go, escape, digits, digit, integer, fraction, exponent, sign, value, before, close, verdict};
+ghost use Rattle.text.specs.Reading.{Leads, Done, Blank, Goes, Begins, Opens, Follows};
 
 // Levels that a text may open.
 pub const LEVELS: usize = 16;
@@ -46,6 +47,13 @@ pub enum Next {
     Fails(Verdict),
 }
 
+// Is it white space? As one test of bits, not one for each.
+fn blank(b: u8) -> bool
+    ensures { λ r. ⌜ Blank b r ⌝ }
+{
+    (b == 9) | (b == 10) | (b == 13) | (b == 32)
+}
+
 // Past white space.
 pub fn space(s: &[u8], at: usize) -> usize
     requires { ⌜ at ≤ length (now s) ⌝ }
@@ -53,15 +61,10 @@ pub fn space(s: &[u8], at: usize) -> usize
 {
     let mut i = at;
     while i < s.len() {
-        let b = s[i];
-        match b {
-            9 | 10 | 13 | 32 => {
-                i += 1;
-            }
-            _ => {
-                return i;
-            }
+        if !blank(s[i]) {
+            return i;
         }
+        i += 1;
     }
     i
 }
@@ -283,24 +286,50 @@ fn character(s: &[u8], at: usize, b: u8) -> Part
     }
 }
 
-// Past the plain characters of a string that are one byte each: most of most strings.
-fn plain(s: &[u8], at: usize) -> usize
+// Is it a byte that does not stand for itself in a string? Without branches, so that eight at once are tested as one.
+fn special(b: u8) -> bool
+    ensures { λ r. ⌜ (r ≡ false → move text b ≡ go (text ∷ [])) ⌝ }
+{
+    (b < 32) | (127 < b) | (b == 34) | (b == 92)
+}
+
+// Is one of the eight bytes from a place on special?
+fn special_in_eight(s: &[u8], at: usize) -> bool
+    requires { ⌜ at + 8 ≤ length (now s) ⌝ }
+    ensures { λ r. ⌜ (r ≡ false → Leads (now (s .entry)) (text ∷ []) at (text ∷ []) (at + 8)) ⌝ }
+{
+    let mut found = false;
+    let mut j = 0;
+    while j < 8 {
+        found = found | special(s[at + j]);
+        j += 1;
+    }
+    found
+}
+
+// Past some of the bytes that are not special, eight by eight.
+fn plain_eights(s: &[u8], at: usize) -> usize
     requires { ⌜ at ≤ length (now s) ⌝ }
     ensures { λ r. ⌜ Leads (now (s .entry)) (text ∷ []) at (text ∷ []) r ⌝ }
 {
     let mut i = at;
+    while 8 <= s.len() - i {
+        if special_in_eight(s, i) {
+            return i;
+        }
+        i += 8;
+    }
+    i
+}
+
+// Past bytes that are not special.
+fn plain(s: &[u8], at: usize) -> usize
+    requires { ⌜ at ≤ length (now s) ⌝ }
+    ensures { λ r. ⌜ Leads (now (s .entry)) (text ∷ []) at (text ∷ []) r ⌝ }
+{
+    let mut i = plain_eights(s, at);
     while i < s.len() {
-        let b = s[i];
-        if b < 32 {
-            return i;
-        }
-        if 127 < b {
-            return i;
-        }
-        if b == 34 {
-            return i;
-        }
-        if b == 92 {
+        if special(s[i]) {
             return i;
         }
         i += 1;
@@ -313,19 +342,22 @@ pub fn string(s: &[u8], at: usize) -> Part
     requires { ⌜ at ≤ length (now s) ⌝ }
     ensures { λ r. ⌜ Goes (now (s .entry)) (text ∷ []) at r ⌝ }
 {
-    let mut i = plain(s, at);
-    while i < s.len() {
-        let b = s[i];
-        if b == 34 {
-            return Part::Past(i + 1);
+    let mut i = at;
+    loop {
+        let j = plain(s, i);
+        if s.len() <= j {
+            return Part::Fails(Verdict::Breaks(j));
         }
-        let r = character(s, i, b);
+        let b = s[j];
+        if b == 34 {
+            return Part::Past(j + 1);
+        }
+        let r = character(s, j, b);
         let Part::Past(n) = r else {
             return r;
         };
-        i = plain(s, n);
+        i = n;
     }
-    Part::Fails(Verdict::Breaks(i))
 }
 
 // White space, and the byte x.
