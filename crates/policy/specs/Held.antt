@@ -10,7 +10,8 @@ use lib.Dec.{ltb}
 use lib.ListN.{length}
 use Rattle.text.specs.Base.{pick}
 use Rattle.policy.specs.Limits.{mostStatements, mostEntries, mostRows, entryCharacters, keyCharacters}
-use Rattle.policy.specs.Policy.{Effect, Allow, Deny, Operator, StringEquals, StringLike, NumericLessThanEquals, Value, text, number, Row, Statement, Policy, Context, Request}
+use Rattle.policy.specs.Policy.{Effect, Allow, Deny, Operator, StringEquals, StringLike, NumericLessThanEquals}
+use Rattle.policy.specs.Policy.{Value, text, number, Row, Statement, Policy, Context, Request}
 use Rattle.policy.specs.Forms.{either}
 
 -- ---- texts and lists

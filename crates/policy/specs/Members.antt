@@ -7,7 +7,8 @@ use mathlib.Core.Bool.{Bool, true, false}
 use mathlib.Core.List.{List, [], _∷_}
 use Prim.Native.Nat.{ℕ}
 use Rattle.text.specs.Base.{pick}
-use Rattle.text.specs.Json.{Json, null, bool, number, string, list, object, Values, no-more, also, Members, no-members, named}
+use Rattle.text.specs.Json.{Json, null, bool, number, string, list, object, Values, no-more, also, Members}
+use Rattle.text.specs.Json.{no-members, named}
 use Rattle.text.specs.Decoding.{Text, textOf, sameText}
 use Rattle.policy.specs.Forms.{Reading, wrong, read, either, both}
 

@@ -11,11 +11,16 @@ use lib.ListN.{length}
 use Rattle.text.specs.Base.{pick}
 use Rattle.text.specs.Json.{Json, null, bool, number, string, list, object, Members, no-members, named}
 use Rattle.text.specs.Decoding.{textOf, sameText}
-use Rattle.policy.specs.Policy.{Effect, Allow, Deny, Operator, StringEquals, StringLike, NumericLessThanEquals, Value, text, Row, Statement, Policy}
+use Rattle.policy.specs.Policy.{Effect, Allow, Deny, Operator, StringEquals, StringLike, NumericLessThanEquals}
+use Rattle.policy.specs.Policy.{Value, text, Row, Statement, Policy}
 use Rattle.policy.specs.Policy as P
-use Rattle.policy.specs.Forms.{Reading, wrong, read, both, either, same, isAction, wildcard, isResource, isSid, isKey, symbolsOf, numberIn, sameKey}
-use Rattle.policy.specs.Words.{versionWord, statementWord, editionWord, sidWord, effectWord, actionWord, resourceWord, conditionWord, allowWord, denyWord, stringEqualsWord, stringLikeWord, numericLessThanEqualsWord}
-use Rattle.policy.specs.Members.{then, only, characters, charactersOf, isWord, slot, known, required, optional, cons, oneOrMore}
+use Rattle.policy.specs.Forms.{Reading, wrong, read, both, either, same, isAction, wildcard, isResource, isSid}
+use Rattle.policy.specs.Forms.{isKey, symbolsOf, numberIn, sameKey}
+use Rattle.policy.specs.Words.{versionWord, statementWord, editionWord, sidWord, effectWord, actionWord}
+use Rattle.policy.specs.Words.{resourceWord, conditionWord, allowWord, denyWord, stringEqualsWord}
+use Rattle.policy.specs.Words.{stringLikeWord, numericLessThanEqualsWord}
+use Rattle.policy.specs.Members.{then, only, characters, charactersOf, isWord, slot, known, required, optional}
+use Rattle.policy.specs.Members.{cons, oneOrMore}
 
 -- ---- entries
 

@@ -13,8 +13,10 @@ use Rattle.text.specs.Json.{Json, null, bool, number, string, list, object, Val
 use Rattle.policy.specs.Limits.{entryCharacters, keyCharacters, mostContext}
 use Rattle.policy.specs.Policy.{Value, text, Context, Request}
 use Rattle.policy.specs.Policy as P
-use Rattle.policy.specs.Forms.{Reading, wrong, read, both, either, all, same, isVendor, isVendorChar, isArn, isKey, numberIn, sameKey}
-use Rattle.policy.specs.Words.{actionNamesWord, resourceArnsWord, contextEntriesWord, contextKeyNameWord, contextKeyTypeWord, contextKeyValuesWord, stringTypeWord, numericTypeWord}
+use Rattle.policy.specs.Forms.{Reading, wrong, read, both, either, all, same, isVendor, isVendorChar, isArn}
+use Rattle.policy.specs.Forms.{isKey, numberIn, sameKey}
+use Rattle.policy.specs.Words.{actionNamesWord, resourceArnsWord, contextEntriesWord, contextKeyNameWord}
+use Rattle.policy.specs.Words.{contextKeyTypeWord, contextKeyValuesWord, stringTypeWord, numericTypeWord}
 use Rattle.policy.specs.Members.{then, only, charactersOf, isWord, slot, known, required, optional, each}
 
 -- a list of exactly one thing

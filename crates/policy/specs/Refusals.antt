@@ -4,8 +4,10 @@
 -- Differs from 01: nowhere.
 use Prim.Native.Nat.{ℕ}
 use Rattle.policy.specs.declared.refusals.Refusal.{Refusal}
-use Rattle.policy.specs.declared.refusals.Refusal.the-variants.{RoomLength, PolicyLength, PolicyText, PolicyLayout, PolicyLimit, RoomContent}
-use Rattle.policy.specs.declared.refusals.Refusal.the-variants.{RecordLength, RecordText, RecordLayout, NoAllow, ResultLength, OutputLength}
+use Rattle.policy.specs.declared.refusals.Refusal.the-variants.{RoomLength, PolicyLength, PolicyText}
+use Rattle.policy.specs.declared.refusals.Refusal.the-variants.{PolicyLayout, PolicyLimit, RoomContent}
+use Rattle.policy.specs.declared.refusals.Refusal.the-variants.{RecordLength, RecordText, RecordLayout, NoAllow}
+use Rattle.policy.specs.declared.refusals.Refusal.the-variants.{ResultLength, OutputLength}
 
 abbrev pub numberOf : Refusal → ℕ
 numberOf RoomLength = 1

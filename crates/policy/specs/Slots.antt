@@ -12,8 +12,10 @@ use Rattle.text.specs.Base.{pick}
 use Rattle.text.specs.Json.{Json, Members}
 use Rattle.text.specs.Decoding.{textOf, sameText}
 use Rattle.text.specs.Contents.{Stands}
-use Rattle.policy.specs.Words.{versionWord, statementWord, sidWord, effectWord, actionWord, resourceWord, conditionWord}
-use Rattle.policy.specs.Words.{actionNamesWord, resourceArnsWord, contextEntriesWord, contextKeyNameWord, contextKeyTypeWord, contextKeyValuesWord}
+use Rattle.policy.specs.Words.{versionWord, statementWord, sidWord, effectWord, actionWord, resourceWord}
+use Rattle.policy.specs.Words.{conditionWord}
+use Rattle.policy.specs.Words.{actionNamesWord, resourceArnsWord, contextEntriesWord, contextKeyNameWord}
+use Rattle.policy.specs.Words.{contextKeyTypeWord, contextKeyValuesWord}
 use Rattle.policy.specs.Members.{Slot, none, one, many, slot, known}
 use Rattle.policy.specs.declared.members.Layout.{Layout}
 use Rattle.policy.specs.declared.members.Layout.the-variants as L

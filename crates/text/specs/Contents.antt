@@ -10,9 +10,12 @@ use mathlib.Core.List.{List}
 use Prim.Native.Nat.{ℕ, _+_, _≤_, _<_}
 use lib.ListN.{length}
 use Rattle.text.specs.Base.{In, At, part}
-use Rattle.text.specs.Json.{Json, Values, Members, null, bool, number, string, list, object, no-more, also, no-members, named, depth, depths, depthm, levels, a-value, rest, members, more, Reads, JsonText}
+use Rattle.text.specs.Json.{Json, Values, Members, null, bool, number, string, list, object, no-more, also}
+use Rattle.text.specs.Json.{no-members, named, depth, depths, depthm, levels, a-value, rest, members, more}
+use Rattle.text.specs.Json.{Reads, JsonText}
 use Rattle.text.specs.declared.walk.Kind.{Kind}
-use Rattle.text.specs.declared.walk.Kind.the-variants.{Null, True, False, Number, Text, List as AList, Object as AnObject}
+use Rattle.text.specs.declared.walk.Kind.the-variants.{Null, True, False, Number, Text, List as AList}
+use Rattle.text.specs.declared.walk.Kind.the-variants.{Object as AnObject}
 use Rattle.text.specs.declared.walk.Span.{Span}
 use Rattle.text.specs.declared.walk.Element.{Element}
 use Rattle.text.specs.declared.walk.Element.the-variants as E

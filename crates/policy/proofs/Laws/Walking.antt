@@ -21,7 +21,8 @@ use Rattle.policy.specs.Members.{Slot, none, one, many, slot, isAmong, k
 use Rattle.policy.specs.Slots.{wordsOf, whichOf, wordAt, Placed, absent, stands, Turn, Repeated, Slotted}
 use Rattle.policy.specs.declared.members.Layout.{Layout}
 use Rattle.policy.specs.declared.members.Layout.the-variants as L
-use Rattle.policy.proofs.Laws.Slots.{differs, distinct, which-most, which-unknown, which-known, which-is, which-only, joined, slot-other, slot-found, slot-again, joined-none}
+use Rattle.policy.proofs.Laws.Slots.{differs, distinct, which-most, which-unknown, which-known, which-is}
+use Rattle.policy.proofs.Laws.Slots.{which-only, joined, slot-other, slot-found, slot-again, joined-none}
 
 -- the slot of a word so far, where it stands, and that with the members still to come it is the object's
 pub record SoFar (s n : List ℕ) (whole rest : Members) (p : ℕ) : Type 0 where

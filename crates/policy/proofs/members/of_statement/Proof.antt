@@ -14,7 +14,9 @@ same-requires : tie.Need-same-requires
 same-requires c κs = search needs
 
 returns : tie.Need-returns
-returns c = which-here _ sidWord (effectWord ∷ actionWord ∷ resourceWord ∷ conditionWord ∷ []) (sym (c .before .same .ensures) ∙ c .if1 .taken)
+returns c = 
+    let y = sym (c .before .same .ensures) ∙ c .if1 .taken in
+    (which-here _ sidWord (effectWord ∷ actionWord ∷ resourceWord ∷ conditionWord ∷ []) y)
 
 slice-aggregate-same-2 : tie.Need-slice-aggregate-same-2
 slice-aggregate-same-2 c = search needs
@@ -23,7 +25,11 @@ same-requires-2 : tie.Need-same-requires-2
 same-requires-2 c κs = search needs
 
 returns-2 : tie.Need-returns-2
-returns-2 c = which-later _ sidWord (effectWord ∷ actionWord ∷ resourceWord ∷ conditionWord ∷ []) 1 (sym (c .before .before .before .before .same .ensures) ∙ c .before .before .before .if1 .left) (which-here _ effectWord (actionWord ∷ resourceWord ∷ conditionWord ∷ []) (sym (c .before .same2 .ensures) ∙ c .if2 .taken))
+returns-2 c = 
+    let n1 = sym (c .before .before .before .before .same .ensures) ∙ c .before .before .before .if1 .left in
+    let y = sym (c .before .same2 .ensures) ∙ c .if2 .taken in
+    (which-later _ sidWord (effectWord ∷ actionWord ∷ resourceWord ∷ conditionWord ∷ []) 1 n1
+    (which-here _ effectWord (actionWord ∷ resourceWord ∷ conditionWord ∷ []) y))
 
 slice-aggregate-same-3 : tie.Need-slice-aggregate-same-3
 slice-aggregate-same-3 c = search needs
@@ -32,7 +38,13 @@ same-requires-3 : tie.Need-same-requires-3
 same-requires-3 c κs = search needs
 
 returns-3 : tie.Need-returns-3
-returns-3 c = which-later _ sidWord (effectWord ∷ actionWord ∷ resourceWord ∷ conditionWord ∷ []) 2 (sym (c .before .before .before .before .before .before .before .same .ensures) ∙ c .before .before .before .before .before .before .if1 .left) (which-later _ effectWord (actionWord ∷ resourceWord ∷ conditionWord ∷ []) 1 (sym (c .before .before .before .before .same2 .ensures) ∙ c .before .before .before .if2 .left) (which-here _ actionWord (resourceWord ∷ conditionWord ∷ []) (sym (c .before .same3 .ensures) ∙ c .if3 .taken)))
+returns-3 c = 
+    let n1 = sym (c .before .before .before .before .before .before .before .same .ensures) ∙ c .before .before .before .before .before .before .if1 .left in
+    let n2 = sym (c .before .before .before .before .same2 .ensures) ∙ c .before .before .before .if2 .left in
+    let y = sym (c .before .same3 .ensures) ∙ c .if3 .taken in
+    (which-later _ sidWord (effectWord ∷ actionWord ∷ resourceWord ∷ conditionWord ∷ []) 2 n1
+    (which-later _ effectWord (actionWord ∷ resourceWord ∷ conditionWord ∷ []) 1 n2
+    (which-here _ actionWord (resourceWord ∷ conditionWord ∷ []) y)))
 
 slice-aggregate-same-4 : tie.Need-slice-aggregate-same-4
 slice-aggregate-same-4 c = search needs
@@ -41,7 +53,15 @@ same-requires-4 : tie.Need-same-requires-4
 same-requires-4 c κs = search needs
 
 returns-4 : tie.Need-returns-4
-returns-4 c = which-later _ sidWord (effectWord ∷ actionWord ∷ resourceWord ∷ conditionWord ∷ []) 3 (sym (c .before .before .before .before .before .before .before .before .before .before .same .ensures) ∙ c .before .before .before .before .before .before .before .before .before .if1 .left) (which-later _ effectWord (actionWord ∷ resourceWord ∷ conditionWord ∷ []) 2 (sym (c .before .before .before .before .before .before .before .same2 .ensures) ∙ c .before .before .before .before .before .before .if2 .left) (which-later _ actionWord (resourceWord ∷ conditionWord ∷ []) 1 (sym (c .before .before .before .before .same3 .ensures) ∙ c .before .before .before .if3 .left) (which-here _ resourceWord (conditionWord ∷ []) (sym (c .before .same4 .ensures) ∙ c .if4 .taken))))
+returns-4 c = 
+    let n1 = sym (c .before .before .before .before .before .before .before .before .before .before .same .ensures) ∙ c .before .before .before .before .before .before .before .before .before .if1 .left in
+    let n2 = sym (c .before .before .before .before .before .before .before .same2 .ensures) ∙ c .before .before .before .before .before .before .if2 .left in
+    let n3 = sym (c .before .before .before .before .same3 .ensures) ∙ c .before .before .before .if3 .left in
+    let y = sym (c .before .same4 .ensures) ∙ c .if4 .taken in
+    (which-later _ sidWord (effectWord ∷ actionWord ∷ resourceWord ∷ conditionWord ∷ []) 3 n1
+    (which-later _ effectWord (actionWord ∷ resourceWord ∷ conditionWord ∷ []) 2 n2
+    (which-later _ actionWord (resourceWord ∷ conditionWord ∷ []) 1 n3
+    (which-here _ resourceWord (conditionWord ∷ []) y))))
 
 slice-aggregate-same-5 : tie.Need-slice-aggregate-same-5
 slice-aggregate-same-5 c = search needs
@@ -50,10 +70,31 @@ same-requires-5 : tie.Need-same-requires-5
 same-requires-5 c κs = search needs
 
 returns-5 : tie.Need-returns-5
-returns-5 c = which-later _ sidWord (effectWord ∷ actionWord ∷ resourceWord ∷ conditionWord ∷ []) 4 (sym (c .before .before .before .before .before .before .before .before .before .before .before .before .before .same .ensures) ∙ c .before .before .before .before .before .before .before .before .before .before .before .before .if1 .left) (which-later _ effectWord (actionWord ∷ resourceWord ∷ conditionWord ∷ []) 3 (sym (c .before .before .before .before .before .before .before .before .before .before .same2 .ensures) ∙ c .before .before .before .before .before .before .before .before .before .if2 .left) (which-later _ actionWord (resourceWord ∷ conditionWord ∷ []) 2 (sym (c .before .before .before .before .before .before .before .same3 .ensures) ∙ c .before .before .before .before .before .before .if3 .left) (which-later _ resourceWord (conditionWord ∷ []) 1 (sym (c .before .before .before .before .same4 .ensures) ∙ c .before .before .before .if4 .left) (which-here _ conditionWord ([]) (sym (c .before .same5 .ensures) ∙ c .if5 .taken)))))
+returns-5 c = 
+    let n1 = sym (c .before .before .before .before .before .before .before .before .before .before .before .before .before .same .ensures) ∙ c .before .before .before .before .before .before .before .before .before .before .before .before .if1 .left in
+    let n2 = sym (c .before .before .before .before .before .before .before .before .before .before .same2 .ensures) ∙ c .before .before .before .before .before .before .before .before .before .if2 .left in
+    let n3 = sym (c .before .before .before .before .before .before .before .same3 .ensures) ∙ c .before .before .before .before .before .before .if3 .left in
+    let n4 = sym (c .before .before .before .before .same4 .ensures) ∙ c .before .before .before .if4 .left in
+    let y = sym (c .before .same5 .ensures) ∙ c .if5 .taken in
+    (which-later _ sidWord (effectWord ∷ actionWord ∷ resourceWord ∷ conditionWord ∷ []) 4 n1
+    (which-later _ effectWord (actionWord ∷ resourceWord ∷ conditionWord ∷ []) 3 n2
+    (which-later _ actionWord (resourceWord ∷ conditionWord ∷ []) 2 n3
+    (which-later _ resourceWord (conditionWord ∷ []) 1 n4
+    (which-here _ conditionWord ([]) y)))))
 
 returns-6 : tie.Need-returns-6
-returns-6 c = which-later _ sidWord (effectWord ∷ actionWord ∷ resourceWord ∷ conditionWord ∷ []) 0 (sym (c .before .before .before .before .before .before .before .before .before .before .before .before .before .same .ensures) ∙ c .before .before .before .before .before .before .before .before .before .before .before .before .if1 .left) (which-later _ effectWord (actionWord ∷ resourceWord ∷ conditionWord ∷ []) 0 (sym (c .before .before .before .before .before .before .before .before .before .before .same2 .ensures) ∙ c .before .before .before .before .before .before .before .before .before .if2 .left) (which-later _ actionWord (resourceWord ∷ conditionWord ∷ []) 0 (sym (c .before .before .before .before .before .before .before .same3 .ensures) ∙ c .before .before .before .before .before .before .if3 .left) (which-later _ resourceWord (conditionWord ∷ []) 0 (sym (c .before .before .before .before .same4 .ensures) ∙ c .before .before .before .if4 .left) (which-later _ conditionWord ([]) 0 (sym (c .before .same5 .ensures) ∙ c .if5 .left) (which-none _)))))
+returns-6 c = 
+    let n1 = sym (c .before .before .before .before .before .before .before .before .before .before .before .before .before .same .ensures) ∙ c .before .before .before .before .before .before .before .before .before .before .before .before .if1 .left in
+    let n2 = sym (c .before .before .before .before .before .before .before .before .before .before .same2 .ensures) ∙ c .before .before .before .before .before .before .before .before .before .if2 .left in
+    let n3 = sym (c .before .before .before .before .before .before .before .same3 .ensures) ∙ c .before .before .before .before .before .before .if3 .left in
+    let n4 = sym (c .before .before .before .before .same4 .ensures) ∙ c .before .before .before .if4 .left in
+    let n5 = sym (c .before .same5 .ensures) ∙ c .if5 .left in
+    (which-later _ sidWord (effectWord ∷ actionWord ∷ resourceWord ∷ conditionWord ∷ []) 0 n1
+    (which-later _ effectWord (actionWord ∷ resourceWord ∷ conditionWord ∷ []) 0 n2
+    (which-later _ actionWord (resourceWord ∷ conditionWord ∷ []) 0 n3
+    (which-later _ resourceWord (conditionWord ∷ []) 0 n4
+    (which-later _ conditionWord ([]) 0 n5
+    (which-none _))))))
 
 pub of-statement-spec : {M : Type 1} → statement M
 of-statement-spec =

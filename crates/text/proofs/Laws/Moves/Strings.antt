@@ -7,7 +7,8 @@ use lib.ListN.{replicate}
 use borrow.Author.Tests.{ne-eqb}
 use types.Run.{OneOf}
 use Rattle.text.specs.Base.{oneOf}
-use Rattle.text.specs.Machine.{Move, bad, go, hex, text, char, escape, letters, sequence, leads, high, owing, move}
+use Rattle.text.specs.Machine.{Move, bad, go, hex, text, char, escape, letters, sequence, leads, high, owing}
+use Rattle.text.specs.Machine.{move}
 use Rattle.text.proofs.Laws.Tests.{inside, under, over, among, outside}
 
 module _ (b : ℕ) where
