@@ -1,10 +1,10 @@
 -- Forms of texts: document 01, "Policy layout", on characters already decoded.
---   isAction cs     "*", or a vendor without wildcards, one colon and a name          isSid cs   1 to 64 letters and digits
---   isResource ys   the wildcard alone, or begins arn: and has five colons at least    isKey cs   letters, digits, : - _ / .
---   symbolsOf w cs  the entry that characters say: `${*}` `${?}` `${$}` are plain, another `${` is wrong; where w, a bare * or ?
---                   is a wildcard
---   numberIn cs     the number of plain digits without a leading zero, up to the greatest
---   sameKey k l     keys compared without regard to ASCII case
+--   isAction cs      "*", or a vendor without wildcards, one colon and a name
+--   isResource ys    the wildcard alone, or begins arn: and has five colons at least
+--   isSid cs, isKey cs   1 to 64 letters and digits; letters, digits and : - _ / .
+--   symbolsOf w cs   the entry that characters say: `${*}` `${?}` `${$}` are plain, another `${` is wrong; where w holds,
+--                    a bare * or ? is a wildcard
+--   numberIn cs      plain digits without a leading zero, up to the greatest;  sameKey k l   equal but for ASCII case
 -- Differs from 01: nowhere.
 use mathlib.Core.Bool.{Bool, true, false}
 use mathlib.Core.List.{List, [], _∷_}
@@ -74,7 +74,8 @@ colons (c ∷ cs) = pick (eqb c 58) (suc (colons cs)) (colons cs)
 
 -- arn:
 unfoldable pub beginsArn : List ℕ → Bool
-beginsArn cs = both (eqb (getD cs 0 0) 97) (both (eqb (getD cs 1 0) 114) (both (eqb (getD cs 2 0) 110) (eqb (getD cs 3 0) 58)))
+beginsArn cs = both (eqb (getD cs 0 0) 97) (both (eqb (getD cs 1 0) 114)
+    (both (eqb (getD cs 2 0) 110) (eqb (getD cs 3 0) 58)))
 
 unfoldable pub isArn : List ℕ → Bool
 isArn cs = both (beginsArn cs) (leb 5 (colons cs))
@@ -107,7 +108,8 @@ symbolsBehind n w [] = read []
 symbolsBehind (suc n) w (c ∷ cs) = symbolsBehind n w cs
 symbolsBehind zero w (c ∷ cs) =
     pick (both (eqb c 36) (eqb (getD cs 0 0) 123))
-    (pick (both (oneOf (36 ∷ 42 ∷ 63 ∷ []) (getD cs 1 0)) (eqb (getD cs 2 0) 125)) (ahead (getD cs 1 0) (symbolsBehind 3 w cs)) wrong)
+    (pick (both (oneOf (36 ∷ 42 ∷ 63 ∷ []) (getD cs 1 0)) (eqb (getD cs 2 0) 125))
+    (ahead (getD cs 1 0) (symbolsBehind 3 w cs)) wrong)
     (ahead (symbol w c) (symbolsBehind 0 w cs))
 
 abbrev pub symbolsOf : Bool → List ℕ → Reading (List ℕ)

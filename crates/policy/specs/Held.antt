@@ -51,7 +51,8 @@ heldRow r = operatorNumber (r .operator) ∷ (heldText (r .key) ++ heldList held
 unfoldable pub heldStatement : Statement → List ℕ
 heldStatement s =
     effectNumber (s .effect)
-    ∷ (heldText (s .sid) ++ (heldList heldText (s .actions) ++ (heldList heldText (s .resources) ++ heldList heldRow (s .rows))))
+    ∷ (heldText (s .sid) ++ (heldList heldText (s .actions) ++
+    (heldList heldText (s .resources) ++ heldList heldRow (s .rows))))
 
 unfoldable pub held : Policy → List ℕ
 held p = heldList heldStatement p

@@ -1,6 +1,6 @@
--- The record layout: document 01, "Record layout", from the tree that a text says to the request that it is, or `wrong`; its
--- limits are part of it (refusal 9 is for both).
---   requestOf t   ActionNames with one action; ResourceArns absent or with one resource; ContextEntries absent or a list
+-- The record layout: document 01, "Record layout", from the tree that a text says to the request that it is, or
+-- `wrong`; its limits are part of it, since refusal 9 is for both.
+--   requestOf t   ActionNames with one action; ResourceArns absent or with one; ContextEntries absent or a list
 --   contextOf t   ContextKeyName, ContextKeyType and ContextKeyValues with one string
 -- Differs from 01: nowhere.
 use mathlib.Core.Bool.{Bool, true, false, not}
@@ -56,7 +56,8 @@ asNumber (read n) = read (P.number n)
 
 -- a value of the type "string" or "numeric", which t names
 unfoldable pub typedOf : Json → List ℕ → Reading Value
-typedOf t cs = pick (isWord stringTypeWord t) (only (short cs) (text cs)) (pick (isWord numericTypeWord t) (asNumber (numberIn cs)) wrong)
+typedOf t cs = pick (isWord stringTypeWord t) (only (short cs) (text cs))
+    (pick (isWord numericTypeWord t) (asNumber (numberIn cs)) wrong)
 
 unfoldable pub contextOf : Json → Reading Context
 contextOf null = wrong

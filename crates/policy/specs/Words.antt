@@ -52,7 +52,8 @@ stringLikeWord = 83 ∷ 116 ∷ 114 ∷ 105 ∷ 110 ∷ 103 ∷ 76 ∷ 105 ∷ 1
 
 -- NumericLessThanEquals
 abbrev pub numericLessThanEqualsWord : List ℕ
-numericLessThanEqualsWord = 78 ∷ 117 ∷ 109 ∷ 101 ∷ 114 ∷ 105 ∷ 99 ∷ 76 ∷ 101 ∷ 115 ∷ 115 ∷ 84 ∷ 104 ∷ 97 ∷ 110 ∷ 69 ∷ 113 ∷ 117 ∷ 97 ∷ 108 ∷ 115 ∷ []
+numericLessThanEqualsWord = 78 ∷ 117 ∷ 109 ∷ 101 ∷ 114 ∷ 105 ∷ 99 ∷ 76 ∷ 101 ∷ 115 ∷ 115 ∷ 84 ∷ 104 ∷ 97 ∷ 110 ∷ 69 ∷
+    113 ∷ 117 ∷ 97 ∷ 108 ∷ 115 ∷ []
 
 -- ActionNames
 abbrev pub actionNamesWord : List ℕ

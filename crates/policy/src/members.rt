@@ -90,8 +90,8 @@ fn which(raw: &[u8], layout: Layout) -> usize
     }
 }
 
-// Where the values of an object's members stand: by their word's turn, 0 for one that is absent. At 0 stands 1 where a name is
-// unknown or repeated.
+// Where the values of an object's members stand, by their word's turn; 0 for one that is absent. At 0 stands 1 where a
+// name is unknown or repeated.
 pub fn slots(s: &[u8], v: usize, layout: Layout) -> [usize; 6]
     requires { ⌜ StandingObject (now s) v ⌝ }
     ensures { λ r. ⌜ ((ms : Members) (e : ℕ) → Stands (now (s .entry)) (object ms) v e → Slotted (now (s .entry)) (wordsOf layout) ms r) ⌝ }

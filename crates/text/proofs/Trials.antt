@@ -98,6 +98,7 @@ trials =
 
 trials-hold : allHold trials ≡ true
 unfolding oneOf leads high begins move optional feed ends run verdictAt hexOf codeAt letterOf sequenceOf readOf
-    unitsBehind meaning textOf equal coded written writtenText unbroken lineAt allHold trials both holds sameVerdict from
+    unitsBehind meaning textOf equal coded written writtenText unbroken lineAt allHold trials both holds sameVerdict
+    from
     sameBool sameLine
 trials-hold = refl

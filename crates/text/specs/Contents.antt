@@ -1,5 +1,5 @@
--- What stands at a place of a text, for whoever walks over a whole text in place. A value's place and end are one another's:
--- laws `stands-unique` and `contents-is` of Laws/Contents.
+-- What stands at a place of a text, for whoever walks over a whole text in place. One value stands at a place, up to one
+-- end: laws `stands-unique` and `contents-is` of Laws/Contents.
 --   Ends s e          no number goes on at place e
 --   Stands s t v e    the value t stands from place v up to place e
 --   Rest s ts i e     behind an element that ends at i, the elements ts, up to the end of their list at e

@@ -1,10 +1,11 @@
--- JSON: RFC 8259, sections 2 to 6, rule by rule, on the bytes of a text s from one place up to another; and what it says.
---   Json          the tree: a number by its spelling, a string by the bytes between its quotes, members in order, repeats kept
---   Number w      the bytes w are a `number`            Quoted s w a e    a `string` with the bytes w between its quotes
---   Space s a e   `ws`, from place a up to place e      Reads s p a e     the piece p, from a up to e
---   JsonText s t  `JSON-text`                           depth t           levels, the outermost list or object being level 1
--- Differs from the RFC: its structural characters each carry the white space on both sides; here the white space before a
--- value or a name belongs to what stands in front of it, so that a value has one first place. The texts are the same.
+-- JSON: RFC 8259, sections 2 to 6, rule by rule, on the bytes of a text s from one place up to another; what it says.
+--   Json             the tree: a number by its spelling, a string by its raw bytes, members in order, repeats kept
+--   Number w         the bytes w are a `number`
+--   Quoted s w a e   a `string`, from place a up to place e, with the bytes w between its quotes
+--   Space s a e      `ws`              Reads s p a e   the piece p
+--   JsonText s t     `JSON-text`       depth t         levels, the outermost list or object being level 1
+-- Differs from the RFC: white space, which its structural characters carry on both sides, stands once, in front of what
+-- follows it, so that a value has one first place. The texts are the same.
 use mathlib.Core.Path.{_≡_}
 use mathlib.Core.Bool.{Bool, true, false}
 use mathlib.Core.List.{List, [], _∷_, _++_}
@@ -131,16 +132,23 @@ pub data Reads (s : List ℕ) : Piece → ℕ → ℕ → Type 0 where
   a-string : {i e : ℕ} {w : List ℕ} → Quoted s w i e → Reads s (a-value (string w)) i e
   -- array: [ ws ] or [ ws value *( ws , ws value ) ws ]
   empty-list : {i j : ℕ} → At s i 91 → Space s (i + 1) j → At s j 93 → Reads s (a-value (list no-more)) i (j + 1)
-  some-list : {i j e : ℕ} {ts : Values} → At s i 91 → Space s (i + 1) j → Reads s (elements ts) j e → Reads s (a-value (list ts)) i e
-  element : {i j e : ℕ} {t : Json} {ts : Values} → Reads s (a-value t) i j → Reads s (rest ts) j e → Reads s (elements (also t ts)) i e
+  some-list : {i j e : ℕ} {ts : Values} → At s i 91 → Space s (i + 1) j → Reads s (elements ts) j e
+      → Reads s (a-value (list ts)) i e
+  element : {i j e : ℕ} {t : Json} {ts : Values} → Reads s (a-value t) i j → Reads s (rest ts) j e
+      → Reads s (elements (also t ts)) i e
   close-list : {i j : ℕ} → Space s i j → At s j 93 → Reads s (rest no-more) i (j + 1)
-  comma-list : {i j k e : ℕ} {ts : Values} → Space s i j → At s j 44 → Space s (j + 1) k → Reads s (elements ts) k e → Reads s (rest ts) i e
+  comma-list : {i j k e : ℕ} {ts : Values} → Space s i j → At s j 44 → Space s (j + 1) k → Reads s (elements ts) k e
+      → Reads s (rest ts) i e
   -- object: { ws } or { ws member *( ws , ws member ) ws }; member: string ws : ws value
-  empty-object : {i j : ℕ} → At s i 123 → Space s (i + 1) j → At s j 125 → Reads s (a-value (object no-members)) i (j + 1)
-  some-object : {i j e : ℕ} {ms : Members} → At s i 123 → Space s (i + 1) j → Reads s (members ms) j e → Reads s (a-value (object ms)) i e
-  member : {i q c v j e : ℕ} {w : List ℕ} {t : Json} {ms : Members} → Quoted s w i q → Space s q c → At s c 58 → Space s (c + 1) v → Reads s (a-value t) v j → Reads s (more ms) j e → Reads s (members (named w t ms)) i e
+  empty-object : {i j : ℕ} → At s i 123 → Space s (i + 1) j → At s j 125
+      → Reads s (a-value (object no-members)) i (j + 1)
+  some-object : {i j e : ℕ} {ms : Members} → At s i 123 → Space s (i + 1) j → Reads s (members ms) j e
+      → Reads s (a-value (object ms)) i e
+  member : {i q c v j e : ℕ} {w : List ℕ} {t : Json} {ms : Members} → Quoted s w i q → Space s q c → At s c 58
+      → Space s (c + 1) v → Reads s (a-value t) v j → Reads s (more ms) j e → Reads s (members (named w t ms)) i e
   close-object : {i j : ℕ} → Space s i j → At s j 125 → Reads s (more no-members) i (j + 1)
-  comma-object : {i j k e : ℕ} {ms : Members} → Space s i j → At s j 44 → Space s (j + 1) k → Reads s (members ms) k e → Reads s (more ms) i e
+  comma-object : {i j k e : ℕ} {ms : Members} → Space s i j → At s j 44 → Space s (j + 1) k → Reads s (members ms) k e
+      → Reads s (more ms) i e
 
 -- JSON-text: ws value ws
 pub record JsonText (s : List ℕ) (t : Json) : Type 0 where

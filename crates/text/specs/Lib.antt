@@ -1,5 +1,4 @@
--- What the contracts of `text` cite. To be believed: Base, Utf8, Strings, Json, Verdicts, Contents, Written, Putting, Lines.
--- Their executable twins, proved equal: Machine, Reading, Decoding, Steps.
+-- What the contracts of `text` cite. To be believed are the first nine; the others are executable twins, proved equal.
 pub mod Base
 pub mod Utf8
 pub mod Strings

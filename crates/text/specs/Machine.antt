@@ -1,5 +1,5 @@
--- The twin of the grammar that the code equals: a reader that takes one byte at a time, over a stack of items still owed.
--- Nothing here need be believed: Laws/Verdict proves that `verdict` says what specs/Verdicts means.
+-- The twin of the grammar that the code equals: it takes one byte at a time, over a stack of items still owed.
+-- Nothing here need be believed: Laws/Meaning proves that `verdict` says what specs/Verdicts means.
 --   move x b       what item x does with byte b
 --   run k bs at    the verdict on the bytes bs, which begin at place `at`, where the stack k is owed
 --   verdict s      the verdict on a whole text of at most sixteen levels

@@ -1,4 +1,4 @@
--- What a function that reads a part of a text promises: equations on the twin's reader, whatever may be owed behind the part.
+-- What a function that reads a part of a text promises: equations on the twin, whatever may be owed behind the part.
 -- Nothing here need be believed (see Machine).
 --   Leads s xs a ys i   the items xs, owed at place a, come to the items ys, owed at place i
 --   Done s xs a e       they are done at e

@@ -36,7 +36,8 @@ pub data Char : List ℕ → Unit → Type 0 where
   -- unescaped: U+0020 and above, neither the quote nor the reverse solidus
   unescaped : {bs : List ℕ} {c : ℕ} → Sequence bs c → 32 ≤ c → (c ≡ 34 → ⊥) → (c ≡ 92 → ⊥) → Char bs (plain c)
   escaped : {x c : ℕ} → Short x c → Char (92 ∷ x ∷ []) (plain c)
-  hexed : {a b c d w x y z : ℕ} → Hex a w → Hex b x → Hex c y → Hex d z → Char (92 ∷ 117 ∷ a ∷ b ∷ c ∷ d ∷ []) (coded (w * 4096 + x * 256 + y * 16 + z))
+  hexed : {a b c d w x y z : ℕ} → Hex a w → Hex b x → Hex c y → Hex d z
+      → Char (92 ∷ 117 ∷ a ∷ b ∷ c ∷ d ∷ []) (coded (w * 4096 + x * 256 + y * 16 + z))
 
 pub data Body : List ℕ → List Unit → Type 0 where
   end : Body [] []
@@ -58,4 +59,5 @@ pub data Means : List Unit → List ℕ → Type 0 where
   one : {c : ℕ} {us : List Unit} {cs : List ℕ} → Means us cs → Means (plain c ∷ us) (c ∷ cs)
   below : {u : ℕ} {us : List Unit} {cs : List ℕ} → u < 55296 → Means us cs → Means (coded u ∷ us) (u ∷ cs)
   above : {u : ℕ} {us : List Unit} {cs : List ℕ} → 57343 < u → Means us cs → Means (coded u ∷ us) (u ∷ cs)
-  pair : {h l : ℕ} {us : List Unit} {cs : List ℕ} → High h → Low l → Means us cs → Means (coded h ∷ coded l ∷ us) (paired h l ∷ cs)
+  pair : {h l : ℕ} {us : List Unit} {cs : List ℕ} → High h → Low l → Means us cs
+      → Means (coded h ∷ coded l ∷ us) (paired h l ∷ cs)

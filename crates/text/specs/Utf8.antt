@@ -1,7 +1,7 @@
 -- UTF-8: RFC 3629, section 4, the rows of its syntax, and section 3 for the number that a sequence stands for.
 --   Tail b          UTF8-tail
 --   Sequence bs c   the bytes bs are a well-formed sequence, and c is the character's number
--- Differs from the RFC: nowhere.  Pinned by: Laws/Utf8.
+-- Differs from the RFC: nowhere.  Pinned by: `means-scalar` of Laws/Strings, `verdict-means` of Laws/Meaning.
 use mathlib.Core.List.{List, [], _∷_}
 use Prim.Native.Nat.{ℕ, _+_, _*_, _-_, _≤_}
 use Rattle.text.specs.Base.{In}

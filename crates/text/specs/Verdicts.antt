@@ -20,7 +20,8 @@ pub record Begins (n : ℕ) (bs : List ℕ) : Type 0 where
   pub rest : List ℕ
   pub text : Text n (bs ++ rest)
 
--- place p is the first byte with which s can no longer begin a JSON text, whatever its levels; or s ends there too early
+-- place p is the first byte with which s can no longer begin a JSON text, whatever its levels; or s ends there too
+-- early
 pub record BreaksAt (s : List ℕ) (p : ℕ) : Type 0 where
   pub inside : p ≤ length s
   pub before : Begins levels (take p s)

@@ -1,5 +1,5 @@
--- One walk over members fills every slot: the words of a layout differ, so a name has one turn, and what was found before is
--- kept beside what is still to come.
+-- One walk over members fills every slot: the words of a layout differ, so a name has one turn, and what was found
+-- before is kept beside what is still to come.
 use mathlib.Core.Path.{_≡_, refl, sym, ap, _∙_, subst}
 use mathlib.Core.Bool.{Bool, true, false}
 use mathlib.Core.Logic.{_⊎_, inl, inr}
@@ -126,7 +126,9 @@ later-suc : (k : ℕ) → (k ≡ 0 → ⊥) → later k ≡ suc k
 later-suc zero h = absurd (h refl)
 later-suc (suc k) h = refl
 
-is-on : (t : Bool) (k : ℕ) (w n : List ℕ) (ns : List (List ℕ)) → sameText (textOf w) n ≡ t → (pick t 1 (later k) ≡ 0 → ⊥) → ((k ≡ 0 → ⊥) → sameText (textOf w) (wordAt ns k) ≡ true) → sameText (textOf w) (wordAt (n ∷ ns) (pick t 1 (later k))) ≡ true
+is-on : (t : Bool) (k : ℕ) (w n : List ℕ) (ns : List (List ℕ)) → sameText (textOf w) n ≡ t
+    → (pick t 1 (later k) ≡ 0 → ⊥) → ((k ≡ 0 → ⊥) → sameText (textOf w) (wordAt ns k) ≡ true)
+    → sameText (textOf w) (wordAt (n ∷ ns) (pick t 1 (later k))) ≡ true
 is-on true k w n ns e h r = e
 is-on false k w n ns e h r =
     let z : k ≡ 0 → ⊥ = λ q. h (ap later q) in
@@ -134,13 +136,15 @@ is-on false k w n ns e h r =
     ∙ ap (sameText (textOf w)) (word-next n ns k (omega arith))
     ∙ r z
 
-pub which-is : (ns : List (List ℕ)) (w : List ℕ) → (whichOf ns w ≡ 0 → ⊥) → sameText (textOf w) (wordAt ns (whichOf ns w)) ≡ true
+pub which-is : (ns : List (List ℕ)) (w : List ℕ) → (whichOf ns w ≡ 0 → ⊥)
+    → sameText (textOf w) (wordAt ns (whichOf ns w)) ≡ true
 unfolding whichOf
 which-is [] w h = absurd (h refl)
 which-is (n ∷ ns) w h = is-on (sameText (textOf w) n) (whichOf ns w) w n ns refl h (which-is ns w)
 
 -- two words that a name spells have one turn
-same-turn : (ns : List (List ℕ)) (i j : ℕ) → distinct ns ≡ true → Turn ns i → Turn ns j → wordAt ns i ≡ wordAt ns j → i ≡ j
+same-turn : (ns : List (List ℕ)) (i j : ℕ) → distinct ns ≡ true → Turn ns i → Turn ns j → wordAt ns i ≡ wordAt ns j
+    → i ≡ j
 unfolding distinct
 same-turn [] i j d p q e = absurd (let a = p .from in let b = p .to in omega arith)
 same-turn (n ∷ ns) zero j d p q e = absurd (let a = p .from in omega arith)
@@ -162,7 +166,8 @@ bool-not : (t : Bool) → (t ≡ true → ⊥) → t ≡ false
 bool-not true h = absurd (h refl)
 bool-not false h = refl
 
-pub which-only : (ns : List (List ℕ)) (w : List ℕ) (j : ℕ) → distinct ns ≡ true → (whichOf ns w ≡ 0 → ⊥) → Turn ns j → (j ≡ whichOf ns w → ⊥) → sameText (textOf w) (wordAt ns j) ≡ false
+pub which-only : (ns : List (List ℕ)) (w : List ℕ) (j : ℕ) → distinct ns ≡ true → (whichOf ns w ≡ 0 → ⊥) → Turn ns j
+    → (j ≡ whichOf ns w → ⊥) → sameText (textOf w) (wordAt ns j) ≡ false
 which-only ns w j d h q n =
     bool-not (sameText (textOf w) (wordAt ns j))
     (λ e. n (same-turn ns j (whichOf ns w) d q
@@ -185,7 +190,8 @@ joined-many many = refl
 joined-many (one t) = refl
 
 -- a member of another name
-pub slot-other : (x : Slot) (n w : List ℕ) (t : Json) (ms : Members) → sameText (textOf w) n ≡ false → joined x (slot n (named w t ms)) ≡ joined x (slot n ms)
+pub slot-other : (x : Slot) (n w : List ℕ) (t : Json) (ms : Members) → sameText (textOf w) n ≡ false
+    → joined x (slot n (named w t ms)) ≡ joined x (slot n ms)
 unfolding slot
 slot-other x n w t ms e = rw e
 
@@ -195,7 +201,8 @@ again-joined t none = refl
 again-joined t many = refl
 again-joined t (one u) = refl
 
-pub slot-found : (n w : List ℕ) (t : Json) (ms : Members) → sameText (textOf w) n ≡ true → joined none (slot n (named w t ms)) ≡ joined (one t) (slot n ms)
+pub slot-found : (n w : List ℕ) (t : Json) (ms : Members) → sameText (textOf w) n ≡ true
+    → joined none (slot n (named w t ms)) ≡ joined (one t) (slot n ms)
 unfolding slot
 slot-found n w t ms e = rw e (again-joined t (slot n ms))
 
@@ -205,7 +212,8 @@ again-many u t none = refl
 again-many u t many = refl
 again-many u t (one v) = refl
 
-pub slot-again : (u : Json) (n w : List ℕ) (t : Json) (ms : Members) → sameText (textOf w) n ≡ true → joined (one u) (slot n (named w t ms)) ≡ many
+pub slot-again : (u : Json) (n w : List ℕ) (t : Json) (ms : Members) → sameText (textOf w) n ≡ true
+    → joined (one u) (slot n (named w t ms)) ≡ many
 unfolding slot
 slot-again u n w t ms e = rw e (again-many u t (slot n ms))
 

@@ -1,5 +1,5 @@
--- A walk over an object's members as far as it has come: what was found is placed, and with what is still to come it is what the
--- whole object says.
+-- A walk over an object's members as far as it has come: what was found is placed, and with what is still to come it
+-- is what the whole object says.
 use mathlib.Core.Path.{_≡_, refl, sym, ap, _∙_, subst}
 use mathlib.Core.Bool.{Bool, true, false}
 use mathlib.Core.Logic.{_⊎_, inl, inr}
@@ -61,7 +61,8 @@ zeros k = by (decLt k 6)
     by (yes h) = getD-replicate 6 k 0 0 h
     by (no h) = List·getD-eq-default (replicate 6 0) 0 {n = k} (omega arith)
 
-pub walking-start : {s : List ℕ} {v e : ℕ} {ms : Members} (ns : List (List ℕ)) (m : Member) → Stands s (object ms) v e → Leads s v ms e m → Walking s v ns (replicate 6 0) m
+pub walking-start : {s : List ℕ} {v e : ℕ} {ms : Members} (ns : List (List ℕ)) (m : Member) → Stands s (object ms) v e
+    → Leads s v ms e m → Walking s v ns (replicate 6 0) m
 walking-start {s} {v} {e} {ms} ns m p l =
     record {
       whole = ms;
@@ -73,14 +74,19 @@ walking-start {s} {v} {e} {ms} ns m p l =
       flag = refl;
       size = refl;
       knows = refl;
-      so-far = λ k t. record { found = none; placed = subst (λ (x : ℕ). Placed s x none) (sym (zeros k)) absent; same = refl };
+      so-far = λ k t. record {
+        found = none;
+        placed = subst (λ (x : ℕ). Placed s x none) (sym (zeros k)) absent;
+        same = refl;
+      };
     }
 
 -- ---- no member is left
 
 module _ {s : List ℕ} {v : ℕ} {ns : List (List ℕ)} {places : List ℕ} {m : Member} (w : Walking s v ns places m) where
   -- what the walk tells, of the object that it walked over, it tells of whatever object stands there
-  pub walking-told : (r : List ℕ) → Slotted s ns (w .whole) r → (ms : Members) (e : ℕ) → Stands s (object ms) v e → Slotted s ns ms r
+  pub walking-told : (r : List ℕ) → Slotted s ns (w .whole) r → (ms : Members) (e : ℕ) → Stands s (object ms) v e
+      → Slotted s ns ms r
   walking-told r p ms e q =
       let z : object (w .whole) ≡ object ms = stands-unique (w .object-is) q in
       let y : w .whole ≡ ms = cc in
@@ -96,7 +102,8 @@ module _ {s : List ℕ} {v : ℕ} {ns : List (List ℕ)} {places : List ℕ} {m 
           λ k t.
               let f = w .so-far k t in
               subst (Placed s (getD places k 0))
-              (sym (joined-none (f .found)) ∙ sym (ap (λ (x : Members). joined (f .found) (slot (wordAt ns k) x)) (l .0)) ∙ f .same)
+              (sym (joined-none (f .found)) ∙ sym (ap (λ (x : Members). joined (f .found) (slot (wordAt ns k) x))
+              (l .0)) ∙ f .same)
               (f .placed),
         );
         not-right = λ z. absurd (z (w .flag));
@@ -133,22 +140,27 @@ module _ {s : List ℕ} {v : ℕ} {ns : List (List ℕ)} {places : List ℕ} {m 
       pub walking-repeated : (getD places k 0 ≡ 0 → ⊥) → Slotted s ns (w .whole) (set places 0 1)
       walking-repeated h = by (w .so-far k turn .found) (w .so-far k turn .placed) (w .so-far k turn .same)
         where
-          by : (x : Slot) → Placed s (getD places k 0) x → joined x (slot (wordAt ns k) (w .rest)) ≡ slot (wordAt ns k) (w .whole) → Slotted s ns (w .whole) (set places 0 1)
+          by : (x : Slot) → Placed s (getD places k 0) x
+              → joined x (slot (wordAt ns k) (w .rest)) ≡ slot (wordAt ns k) (w .whole)
+              → Slotted s ns (w .whole) (set places 0 1)
           by none p y = absurd (h (placed-none p refl))
           by many p y = absurd (placed-many p refl)
           by (one u) p y =
               wrongly (inr (record {
                 turn = k;
                 among = turn;
-                many-times = sym y ∙ ap (λ (r : Members). joined (one u) (slot (wordAt ns k) r)) (leader .is) ∙ slot-again u (wordAt ns k) (part s n e) (leader .head) (leader .tail) is-word;
+                many-times = sym y ∙ ap (λ (r : Members). joined (one u) (slot (wordAt ns k) r)) (leader .is)
+                    ∙ slot-again u (wordAt ns k) (part s n e) (leader .head) (leader .tail) is-word;
               }))
 
       -- the slot of the turn is filled, the others stay
-      fill : 0 < x → getD places k 0 ≡ 0 → distinct ns ≡ true → (j : ℕ) → Turn ns j → Dec (j ≡ k) → SoFar s (wordAt ns j) (w .whole) (leader .tail) (getD (set places k x) j 0)
+      fill : 0 < x → getD places k 0 ≡ 0 → distinct ns ≡ true → (j : ℕ) → Turn ns j → Dec (j ≡ k)
+          → SoFar s (wordAt ns j) (w .whole) (leader .tail) (getD (set places k x) j 0)
       fill h zero-there d j t (yes y) =
           let f = w .so-far k turn in
           let g = placed-zero (f .placed) zero-there in
-          let here : getD (set places k x) j 0 ≡ x = ap (λ (i : ℕ). getD (set places k x) i 0) y ∙ getD-set-same places k x 0 (let a = w .size in let b = turn .to in let c = few in omega arith) in
+          let here : getD (set places k x) j 0 ≡ x = ap (λ (i : ℕ). getD (set places k x) i 0) y
+          ∙ getD-set-same places k x 0 (let a = w .size in let b = turn .to in let c = few in omega arith) in
           record {
             found = one (leader .head);
             placed = subst (λ (i : ℕ). Placed s i (one (leader .head))) (sym here) (stands h (leader .stands));
@@ -170,7 +182,8 @@ module _ {s : List ℕ} {v : ℕ} {ns : List (List ℕ)} {places : List ℕ} {m 
                 ∙ f .same;
           }
 
-      pub walking-more : getD places k 0 ≡ 0 → distinct ns ≡ true → (m′ : Member) → Leads s (leader .stop) (leader .tail) (w .stop) m′ → Walking s v ns (set places k x) m′
+      pub walking-more : getD places k 0 ≡ 0 → distinct ns ≡ true → (m′ : Member)
+          → Leads s (leader .stop) (leader .tail) (w .stop) m′ → Walking s v ns (set places k x) m′
       unfolding known
       walking-more h d m′ l =
           record {
@@ -193,7 +206,8 @@ unfoldable pub leftOf : List ℕ → Member → ℕ
 leftOf s (M.Named n e v) = suc (length s - v)
 leftOf s (M.Past p) = 0
 
-pub left-falls : (s : List ℕ) (x e y : ℕ) (ms : Members) (n′ e′ : ℕ) (m : Member) → x < e → e ≤ length s → Leads s e ms y m → leftOf s m < leftOf s (M.Named n′ e′ x)
+pub left-falls : (s : List ℕ) (x e y : ℕ) (ms : Members) (n′ e′ : ℕ) (m : Member) → x < e → e ≤ length s
+    → Leads s e ms y m → leftOf s m < leftOf s (M.Named n′ e′ x)
 unfolding leftOf
 left-falls s x e y ms n′ e′ (M.Named a b v) h g l = let p = l .later in let q = stands-inside (l .stands) in omega arith
 left-falls s x e y ms n′ e′ (M.Past p) h g l = omega arith

@@ -25,7 +25,8 @@ not-special b h =
     let p = neither _ _ h in
     let q = neither _ _ (p .0) in
     let r = neither _ _ (q .0) in
-    text-plain b (eqb-false b 34 (q .1)) (eqb-false b 92 (p .1)) (ltb-false b 32 (r .0)) (omega (arith, ltb-false 127 b (r .1)))
+    text-plain b (eqb-false b 34 (q .1)) (eqb-false b 92 (p .1)) (ltb-false b 32 (r .0))
+    (omega (arith, ltb-false 127 b (r .1)))
 
 -- one more byte that is not special
 pub plain-more :
@@ -34,7 +35,8 @@ pub plain-more :
 plain-more p h e = seq p (takes text [] (text ∷ []) h e)
 
 -- the same place, told otherwise
-pub plain-at : {s : List ℕ} {at i j : ℕ} → Leads s (text ∷ []) at (text ∷ []) i → i ≡ j → Leads s (text ∷ []) at (text ∷ []) j
+pub plain-at : {s : List ℕ} {at i j : ℕ} → Leads s (text ∷ []) at (text ∷ []) i → i ≡ j
+    → Leads s (text ∷ []) at (text ∷ []) j
 plain-at {s} {at} p e = subst (λ (n : ℕ). Leads s (text ∷ []) at (text ∷ []) n) e p
 
 -- ---- white space

@@ -30,19 +30,28 @@ returns : tie.Need-returns Inv-loop μ-loop
 returns c = search needs
 
 sub-answer : tie.Need-sub-answer Inv-loop μ-loop
-sub-answer c = let h = line-ahead (c .before .before .before .before .before .before .args .s .now) (c .before .before .before .before .loop .at) _ _ (sym (c .before .before .before .line-at .ensures) ∙ c .before .l .given .1) in omega (arith, h .order)
+sub-answer c = let h = line-ahead (c .before .before .before .before .before .before .args .s .now)
+    (c .before .before .before .before .loop .at) _ _ (sym (c .before .before .before .line-at .ensures)
+    ∙ c .before .l .given .1) in omega (arith, h .order)
 
 part-answer-start : tie.Need-part-answer-start Inv-loop μ-loop
-part-answer-start c = let h = line-ahead (c .before .before .before .before .before .before .args .s .now) (c .before .before .before .before .loop .at) _ _ (sym (c .before .before .before .line-at .ensures) ∙ c .before .l .given .1) in omega (arith, h .order)
+part-answer-start c = let h = line-ahead (c .before .before .before .before .before .before .args .s .now)
+    (c .before .before .before .before .loop .at) _ _ (sym (c .before .before .before .line-at .ensures)
+    ∙ c .before .l .given .1) in omega (arith, h .order)
 
 part-answer-end : tie.Need-part-answer-end Inv-loop μ-loop
-part-answer-end c = let h = line-ahead (c .before .before .before .before .before .before .args .s .now) (c .before .before .before .before .loop .at) _ _ (sym (c .before .before .before .line-at .ensures) ∙ c .before .l .given .1) in omega (arith, h .inside)
+part-answer-end c = let h = line-ahead (c .before .before .before .before .before .before .args .s .now)
+    (c .before .before .before .before .loop .at) _ _ (sym (c .before .before .before .line-at .ensures)
+    ∙ c .before .l .given .1) in omega (arith, h .inside)
 
 answer-requires : tie.Need-answer-requires Inv-loop μ-loop
 answer-requires c κs = search needs
 
 loop-less : tie.Need-loop-less Inv-loop μ-loop
-loop-less c = let h = line-ahead (c .before .before .before .before .before .before .before .before .args .s .now) (c .before .before .before .before .before .before .loop .at) _ _ (sym (c .before .before .before .before .before .line-at .ensures) ∙ c .before .before .before .l .given .1) in omega (arith, h .later, h .next)
+loop-less c = let h = line-ahead (c .before .before .before .before .before .before .before .before .args .s .now)
+    (c .before .before .before .before .before .before .loop .at) _ _
+    (sym (c .before .before .before .before .before .line-at .ensures) ∙ c .before .before .before .l .given .1) in
+    omega (arith, h .later, h .next)
 
 loop-again : tie.Need-loop-again Inv-loop μ-loop
 loop-again c = tt

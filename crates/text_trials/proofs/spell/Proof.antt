@@ -56,7 +56,11 @@ loop-less : tie.Need-loop-less Inv-loop μ-loop
 loop-less c = simp length-set (omega arith)
 
 loop-again : tie.Need-loop-again Inv-loop μ-loop
-loop-again c = (simp length-set (c .before .before .before .before .before .before .loop .inv .0), simp length-set (omega arith))
+loop-again c = (
+  simp length-set (c .before .before .before .before .before .before .loop .inv .0),
+  simp length-set
+      (omega arith),
+)
 
 same-length-3 : tie.Need-same-length-3 Inv-loop μ-loop
 same-length-3 c = c .before .loop .inv .0

@@ -14,7 +14,7 @@ same-requires : tie.Need-same-requires
 same-requires c κs = search needs
 
 returns : tie.Need-returns
-returns c = 
+returns c =
     let y = sym (c .before .same .ensures) ∙ c .if1 .taken in
     (which-here _ contextKeyNameWord (contextKeyTypeWord ∷ contextKeyValuesWord ∷ []) y)
 
@@ -25,7 +25,7 @@ same-requires-2 : tie.Need-same-requires-2
 same-requires-2 c κs = search needs
 
 returns-2 : tie.Need-returns-2
-returns-2 c = 
+returns-2 c =
     let n1 = sym (c .before .before .before .before .same .ensures) ∙ c .before .before .before .if1 .left in
     let y = sym (c .before .same2 .ensures) ∙ c .if2 .taken in
     (which-later _ contextKeyNameWord (contextKeyTypeWord ∷ contextKeyValuesWord ∷ []) 1 n1
@@ -38,8 +38,9 @@ same-requires-3 : tie.Need-same-requires-3
 same-requires-3 c κs = search needs
 
 returns-3 : tie.Need-returns-3
-returns-3 c = 
-    let n1 = sym (c .before .before .before .before .before .before .before .same .ensures) ∙ c .before .before .before .before .before .before .if1 .left in
+returns-3 c =
+    let n1 = sym (c .before .before .before .before .before .before .before .same .ensures)
+    ∙ c .before .before .before .before .before .before .if1 .left in
     let n2 = sym (c .before .before .before .before .same2 .ensures) ∙ c .before .before .before .if2 .left in
     let y = sym (c .before .same3 .ensures) ∙ c .if3 .taken in
     (which-later _ contextKeyNameWord (contextKeyTypeWord ∷ contextKeyValuesWord ∷ []) 2 n1
@@ -47,8 +48,9 @@ returns-3 c =
     (which-here _ contextKeyValuesWord ([]) y)))
 
 returns-4 : tie.Need-returns-4
-returns-4 c = 
-    let n1 = sym (c .before .before .before .before .before .before .before .same .ensures) ∙ c .before .before .before .before .before .before .if1 .left in
+returns-4 c =
+    let n1 = sym (c .before .before .before .before .before .before .before .same .ensures)
+    ∙ c .before .before .before .before .before .before .if1 .left in
     let n2 = sym (c .before .before .before .before .same2 .ensures) ∙ c .before .before .before .if2 .left in
     let n3 = sym (c .before .same3 .ensures) ∙ c .if3 .left in
     (which-later _ contextKeyNameWord (contextKeyTypeWord ∷ contextKeyValuesWord ∷ []) 0 n1

@@ -14,7 +14,7 @@ same-requires : tie.Need-same-requires
 same-requires c κs = search needs
 
 returns : tie.Need-returns
-returns c = 
+returns c =
     let y = sym (c .before .same .ensures) ∙ c .if1 .taken in
     (which-here _ versionWord (statementWord ∷ []) y)
 
@@ -25,14 +25,14 @@ same-requires-2 : tie.Need-same-requires-2
 same-requires-2 c κs = search needs
 
 returns-2 : tie.Need-returns-2
-returns-2 c = 
+returns-2 c =
     let n1 = sym (c .before .before .before .before .same .ensures) ∙ c .before .before .before .if1 .left in
     let y = sym (c .before .same2 .ensures) ∙ c .if2 .taken in
     (which-later _ versionWord (statementWord ∷ []) 1 n1
     (which-here _ statementWord ([]) y))
 
 returns-3 : tie.Need-returns-3
-returns-3 c = 
+returns-3 c =
     let n1 = sym (c .before .before .before .before .same .ensures) ∙ c .before .before .before .if1 .left in
     let n2 = sym (c .before .same2 .ensures) ∙ c .if2 .left in
     (which-later _ versionWord (statementWord ∷ []) 0 n1

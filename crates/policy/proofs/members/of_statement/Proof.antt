@@ -14,7 +14,7 @@ same-requires : tie.Need-same-requires
 same-requires c κs = search needs
 
 returns : tie.Need-returns
-returns c = 
+returns c =
     let y = sym (c .before .same .ensures) ∙ c .if1 .taken in
     (which-here _ sidWord (effectWord ∷ actionWord ∷ resourceWord ∷ conditionWord ∷ []) y)
 
@@ -25,7 +25,7 @@ same-requires-2 : tie.Need-same-requires-2
 same-requires-2 c κs = search needs
 
 returns-2 : tie.Need-returns-2
-returns-2 c = 
+returns-2 c =
     let n1 = sym (c .before .before .before .before .same .ensures) ∙ c .before .before .before .if1 .left in
     let y = sym (c .before .same2 .ensures) ∙ c .if2 .taken in
     (which-later _ sidWord (effectWord ∷ actionWord ∷ resourceWord ∷ conditionWord ∷ []) 1 n1
@@ -38,8 +38,9 @@ same-requires-3 : tie.Need-same-requires-3
 same-requires-3 c κs = search needs
 
 returns-3 : tie.Need-returns-3
-returns-3 c = 
-    let n1 = sym (c .before .before .before .before .before .before .before .same .ensures) ∙ c .before .before .before .before .before .before .if1 .left in
+returns-3 c =
+    let n1 = sym (c .before .before .before .before .before .before .before .same .ensures)
+    ∙ c .before .before .before .before .before .before .if1 .left in
     let n2 = sym (c .before .before .before .before .same2 .ensures) ∙ c .before .before .before .if2 .left in
     let y = sym (c .before .same3 .ensures) ∙ c .if3 .taken in
     (which-later _ sidWord (effectWord ∷ actionWord ∷ resourceWord ∷ conditionWord ∷ []) 2 n1
@@ -53,9 +54,11 @@ same-requires-4 : tie.Need-same-requires-4
 same-requires-4 c κs = search needs
 
 returns-4 : tie.Need-returns-4
-returns-4 c = 
-    let n1 = sym (c .before .before .before .before .before .before .before .before .before .before .same .ensures) ∙ c .before .before .before .before .before .before .before .before .before .if1 .left in
-    let n2 = sym (c .before .before .before .before .before .before .before .same2 .ensures) ∙ c .before .before .before .before .before .before .if2 .left in
+returns-4 c =
+    let n1 = sym (c .before .before .before .before .before .before .before .before .before .before .same .ensures)
+    ∙ c .before .before .before .before .before .before .before .before .before .if1 .left in
+    let n2 = sym (c .before .before .before .before .before .before .before .same2 .ensures)
+    ∙ c .before .before .before .before .before .before .if2 .left in
     let n3 = sym (c .before .before .before .before .same3 .ensures) ∙ c .before .before .before .if3 .left in
     let y = sym (c .before .same4 .ensures) ∙ c .if4 .taken in
     (which-later _ sidWord (effectWord ∷ actionWord ∷ resourceWord ∷ conditionWord ∷ []) 3 n1
@@ -70,10 +73,15 @@ same-requires-5 : tie.Need-same-requires-5
 same-requires-5 c κs = search needs
 
 returns-5 : tie.Need-returns-5
-returns-5 c = 
-    let n1 = sym (c .before .before .before .before .before .before .before .before .before .before .before .before .before .same .ensures) ∙ c .before .before .before .before .before .before .before .before .before .before .before .before .if1 .left in
-    let n2 = sym (c .before .before .before .before .before .before .before .before .before .before .same2 .ensures) ∙ c .before .before .before .before .before .before .before .before .before .if2 .left in
-    let n3 = sym (c .before .before .before .before .before .before .before .same3 .ensures) ∙ c .before .before .before .before .before .before .if3 .left in
+returns-5 c =
+    let n1 = sym (c .before .before .before .before .before .before .before .before .before .before .before .before
+    .before .same .ensures)
+    ∙ c .before .before .before .before .before .before .before .before .before .before .before .before .if1 .left
+    in
+    let n2 = sym (c .before .before .before .before .before .before .before .before .before .before .same2 .ensures)
+    ∙ c .before .before .before .before .before .before .before .before .before .if2 .left in
+    let n3 = sym (c .before .before .before .before .before .before .before .same3 .ensures)
+    ∙ c .before .before .before .before .before .before .if3 .left in
     let n4 = sym (c .before .before .before .before .same4 .ensures) ∙ c .before .before .before .if4 .left in
     let y = sym (c .before .same5 .ensures) ∙ c .if5 .taken in
     (which-later _ sidWord (effectWord ∷ actionWord ∷ resourceWord ∷ conditionWord ∷ []) 4 n1
@@ -83,10 +91,15 @@ returns-5 c =
     (which-here _ conditionWord ([]) y)))))
 
 returns-6 : tie.Need-returns-6
-returns-6 c = 
-    let n1 = sym (c .before .before .before .before .before .before .before .before .before .before .before .before .before .same .ensures) ∙ c .before .before .before .before .before .before .before .before .before .before .before .before .if1 .left in
-    let n2 = sym (c .before .before .before .before .before .before .before .before .before .before .same2 .ensures) ∙ c .before .before .before .before .before .before .before .before .before .if2 .left in
-    let n3 = sym (c .before .before .before .before .before .before .before .same3 .ensures) ∙ c .before .before .before .before .before .before .if3 .left in
+returns-6 c =
+    let n1 = sym (c .before .before .before .before .before .before .before .before .before .before .before .before
+    .before .same .ensures)
+    ∙ c .before .before .before .before .before .before .before .before .before .before .before .before .if1 .left
+    in
+    let n2 = sym (c .before .before .before .before .before .before .before .before .before .before .same2 .ensures)
+    ∙ c .before .before .before .before .before .before .before .before .before .if2 .left in
+    let n3 = sym (c .before .before .before .before .before .before .before .same3 .ensures)
+    ∙ c .before .before .before .before .before .before .if3 .left in
     let n4 = sym (c .before .before .before .before .same4 .ensures) ∙ c .before .before .before .if4 .left in
     let n5 = sym (c .before .same5 .ensures) ∙ c .if5 .left in
     (which-later _ sidWord (effectWord ∷ actionWord ∷ resourceWord ∷ conditionWord ∷ []) 0 n1

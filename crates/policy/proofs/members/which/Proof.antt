@@ -31,22 +31,22 @@ of-context-requires : tie.Need-of-context-requires
 of-context-requires c κs = search needs
 
 returns : tie.Need-returns
-returns c = 
+returns c =
     let raw = c .before .before .before .before .args .raw .now in
     c .of-policy .ensures ∙ ap (λ (l : Layout). whichOf (wordsOf l) raw) (sym (c .before .enum-told .given .1))
 
 returns-2 : tie.Need-returns-2
-returns-2 c = 
+returns-2 c =
     let raw = c .before .before .before .before .args .raw .now in
     c .of-statement .ensures ∙ ap (λ (l : Layout). whichOf (wordsOf l) raw) (sym (c .before .enum-told2 .given .1))
 
 returns-3 : tie.Need-returns-3
-returns-3 c = 
+returns-3 c =
     let raw = c .before .before .before .before .args .raw .now in
     c .of-record .ensures ∙ ap (λ (l : Layout). whichOf (wordsOf l) raw) (sym (c .before .enum-told3 .given .1))
 
 returns-4 : tie.Need-returns-4
-returns-4 c = 
+returns-4 c =
     let raw = c .before .before .before .before .args .raw .now in
     c .of-context .ensures ∙ ap (λ (l : Layout). whichOf (wordsOf l) raw) (sym (c .before .enum-told4 .given .1))
 

@@ -38,7 +38,8 @@ loop-less : tie.Need-loop-less Inv-loop μ-loop
 loop-less c = search needs
 
 loop-again : tie.Need-loop-again Inv-loop μ-loop
-loop-again c = plain-more (c .before .before .before .before .loop .inv) (c .before .before .before .loop-test .taken) (c .before .special .ensures (c .if1 .left))
+loop-again c = plain-more (c .before .before .before .before .loop .inv) (c .before .before .before .loop-test .taken)
+    (c .before .special .ensures (c .if1 .left))
 
 returns-2 : tie.Need-returns-2 Inv-loop μ-loop
 returns-2 c = c .before .loop .inv

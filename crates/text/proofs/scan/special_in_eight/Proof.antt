@@ -41,7 +41,8 @@ loop-again c = (
   omega arith,
   λ e.
       let n = neither _ _ e in
-      plain-at (plain-more (c .before .before .before .loop .inv .1 (n .0)) (omega arith) (c .special .ensures (n .1))) (omega arith),
+      plain-at (plain-more (c .before .before .before .loop .inv .1 (n .0)) (omega arith)
+      (c .special .ensures (n .1))) (omega arith),
 )
 
 returns : tie.Need-returns Inv-loop μ-loop
