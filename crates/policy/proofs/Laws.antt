@@ -5,3 +5,4 @@ pub mod Same
 pub mod Numbers
 pub mod Symbols
 pub mod Converting
+pub mod Entries
