@@ -7,3 +7,4 @@ pub mod Same
 pub mod Numbers
 pub mod Symbols
 pub mod Converting
+pub mod Entries

@@ -1,20 +1,17 @@
 -- What the loops keep that convert a run in place: the places passed hold what was read, the others what they held.
---   symbols-length   an entry has no more symbols than the characters that say them
 use mathlib.Core.Path.{_≡_, refl, ap, sym, _∙_}
 use mathlib.Core.Bool.{Bool, true, false}
 use mathlib.Core.List.{List, [], _∷_, _++_, append-assoc, append-nil, map}
 use Prim.Native.Nat.{ℕ, zero, suc, _+_, _≤_, _<_}
 use native.Mathlib.Numerals.{add-one}
 use native.Mathlib.Omega.{arith}
-use lib.Dec.{eqb}
 use lib.ListN.{length, getD, drop, set, length-append, drop-of-length-le}
-use Rattle.text.specs.Base.{pick, oneOf}
 use Rattle.text.specs.Putting.{lay}
 use Rattle.text.proofs.Laws.Putting.{lay-length, lay-snoc}
 use Rattle.policy.specs.declared.forms.Step.{Step}
 use Rattle.policy.specs.declared.forms.Step.the-variants as S
 use Rattle.policy.specs.declared.forms.Converted.the-variants as C
-use Rattle.policy.specs.Forms.{Reading, wrong, read, both, wildcard, ahead, symbol, symbolsBehind, symbolsOf}
+use Rattle.policy.specs.Forms.{Reading, wrong, read, wildcard, ahead, symbolsBehind, symbolsOf}
 use Rattle.policy.specs.Told.{converted, isRead, Says}
 use Rattle.policy.proofs.Laws.Symbols.{says-on, says-text, says-wrong}
 
@@ -161,31 +158,3 @@ module _ {w : Bool} {before after : List ℕ} {i n : ℕ} (p : Sofar w before af
       let end : converted (symbolsOf w before) before ≡ (C.Count (length (p .said)), lay (p .said) before) =
       ap (λ (t : Reading (List ℕ)). converted t before) all in
       cc (end, p .count, p .laid)
-
--- ---- no more symbols than characters
-
-ahead-length : (c n : ℕ) (t : Reading (List ℕ)) → ((ys : List ℕ) → t ≡ read ys → length ys ≤ n)
-    → (ys : List ℕ) → ahead c t ≡ read ys → length ys ≤ suc n
-unfolding ahead
-ahead-length c n wrong f ys e = absurd (let z : _≡_ {A = ℕ} 0 1 = cc in omega arith)
-ahead-length c n (read zs) f ys e =
-    let same : c ∷ zs ≡ ys = cc in omega (arith, f zs refl, sym (ap length same))
-
-step-length : (n : ℕ) (t u : Bool) (x y : ℕ) (a b : Reading (List ℕ))
-    → ((ys : List ℕ) → a ≡ read ys → length ys ≤ n) → ((ys : List ℕ) → b ≡ read ys → length ys ≤ n)
-    → (ys : List ℕ) → pick t (pick u (ahead x a) wrong) (ahead y b) ≡ read ys → length ys ≤ suc n
-step-length n true true x y a b f g ys e = ahead-length x n a f ys e
-step-length n true false x y a b f g ys e = absurd (let z : _≡_ {A = ℕ} 0 1 = cc in omega arith)
-step-length n false u x y a b f g ys e = ahead-length y n b g ys e
-
-behind-length : (n : ℕ) (w : Bool) (cs ys : List ℕ) → symbolsBehind n w cs ≡ read ys → length ys ≤ length cs
-unfolding symbolsBehind
-behind-length n w [] ys e = let same : [] ≡ ys = cc in omega (arith, sym (ap length same))
-behind-length (suc n) w (c ∷ cs) ys e = omega (arith, behind-length n w cs ys e)
-behind-length zero w (c ∷ cs) ys e =
-    step-length (length cs) (both (eqb c 36) (eqb (getD cs 0 0) 123))
-    (both (oneOf (36 ∷ 42 ∷ 63 ∷ []) (getD cs 1 0)) (eqb (getD cs 2 0) 125)) (getD cs 1 0) (symbol w c)
-    (symbolsBehind 3 w cs) (symbolsBehind 0 w cs) (behind-length 3 w cs) (behind-length 0 w cs) ys e
-
-pub symbols-length : (w : Bool) (cs ys : List ℕ) → symbolsOf w cs ≡ read ys → length ys ≤ length cs
-symbols-length w cs ys e = behind-length 0 w cs ys e
