@@ -5,8 +5,10 @@
 
 #![deny(unsafe_code)]
 
+mod compare;
 mod linked;
 
+pub use compare::{compare, Comparison};
 use linked::Answer;
 use second::Scan;
 
