@@ -8,3 +8,4 @@ pub mod Numbers
 pub mod Symbols
 pub mod Converting
 pub mod Entries
+pub mod Holding

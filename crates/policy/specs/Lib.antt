@@ -10,3 +10,4 @@ pub mod PolicyLayout
 pub mod RecordLayout
 pub mod Held
 pub mod Told
+pub mod Holding
