@@ -9,3 +9,4 @@ pub mod Symbols
 pub mod Converting
 pub mod Entries
 pub mod Holding
+pub mod Spoken

@@ -11,3 +11,4 @@ pub mod RecordLayout
 pub mod Held
 pub mod Told
 pub mod Holding
+pub mod Spoken

@@ -15,7 +15,7 @@ pub enum Held {
     Wrong,
 }
 
-fn is_text(k: Kind) -> bool
+pub fn is_text(k: Kind) -> bool
     ensures { λ r. ⌜ r ≡ isText k ⌝ }
 {
     match k {

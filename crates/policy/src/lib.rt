@@ -3,3 +3,4 @@ pub mod forms;
 pub mod holding;
 pub mod members;
 pub mod refusals;
+pub mod words;

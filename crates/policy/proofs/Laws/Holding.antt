@@ -29,7 +29,7 @@ use Rattle.policy.specs.Holding.{isText, Extends, TextHeld, TooLong}
 
 -- ---- strings and other values
 
-never : {A : Type 0} → false ≡ true → A
+pub never : {A : Type 0} → false ≡ true → A
 never z = absurd (let y : _≡_ {A = ℕ} 0 1 = cc in omega arith)
 
 pub not-text : (t : Json) → isText (kindOf t) ≡ false → charactersOf t ≡ wrong
