@@ -10,3 +10,4 @@ pub mod Converting
 pub mod Entries
 pub mod Holding
 pub mod Spoken
+pub mod Formed

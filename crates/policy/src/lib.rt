@@ -1,4 +1,5 @@
 // Policies and records: layouts, limits, refusals and the decision. Knows nothing of logs and rooms.
+pub mod entries;
 pub mod forms;
 pub mod holding;
 pub mod members;
