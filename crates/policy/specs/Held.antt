@@ -1,7 +1,8 @@
 -- The held policy: the run of numbers that holds a policy read, and a request; what every later operation works on.
 --   held p         a policy: its statements behind their number
 --   heldRequest r  a request
---   A text is its length and its characters; a list its length and its parts; a number its two halves.
+--   A text is its length and its characters; a list its length and its parts; a number its upper half, marked so that
+--   it is no length of a text, and its lower 32 bits.
 --   overLimit p    document 01, "Numbered refusals", the limits of a policy
 use mathlib.Core.Bool.{Bool, true, false}
 use mathlib.Core.List.{List, [], _∷_, _++_}
@@ -26,9 +27,12 @@ heldEach f (x ∷ xs) = f x ++ heldEach f xs
 abbrev pub heldList : {A : Type 0} → (A → List ℕ) → List A → List ℕ
 heldList f xs = length xs ∷ heldEach f xs
 
--- the low 32 bits and those above
+-- what marks a number's upper half
+abbrev pub mark : ℕ
+mark = 2147483648
+
 abbrev pub heldNumber : ℕ → List ℕ
-heldNumber n = n % 4294967296 ∷ n / 4294967296 ∷ []
+heldNumber n = (mark + n / 4294967296) ∷ n % 4294967296 ∷ []
 
 abbrev pub heldValue : Value → List ℕ
 heldValue (text cs) = heldText cs
@@ -85,18 +89,24 @@ longValue (number n) = false
 unfoldable pub rowOver : Row → Bool
 rowOver r = either (ltb keyCharacters (length (r .key))) (anyOf longValue (r .entries))
 
+unfoldable pub rowsOver : List Row → Bool
+rowsOver rs = either (ltb mostRows (length rs)) (anyOf rowOver rs)
+
 unfoldable pub statementOver : Statement → Bool
-statementOver s =
-    either (ltb mostRows (length (s .rows)))
-    (either (anyOf longText (s .actions)) (either (anyOf longText (s .resources)) (anyOf rowOver (s .rows))))
+statementOver s = either (rowsOver (s .rows)) (either (anyOf longText (s .actions)) (anyOf longText (s .resources)))
 
-unfoldable pub rowEntries : List Row → ℕ
-rowEntries [] = 0
-rowEntries (r ∷ rs) = length (r .entries) + rowEntries rs
+unfoldable pub totalOf : {A : Type 0} → (A → ℕ) → List A → ℕ
+totalOf f [] = 0
+totalOf f (x ∷ xs) = f x + totalOf f xs
 
-unfoldable pub entries : Policy → ℕ
-entries [] = 0
-entries (s ∷ p) = length (s .actions) + length (s .resources) + rowEntries (s .rows) + entries p
+abbrev pub rowEntries : List Row → ℕ
+rowEntries rs = totalOf (λ r. length (r .entries)) rs
+
+unfoldable pub statementEntries : Statement → ℕ
+statementEntries s = length (s .actions) + length (s .resources) + rowEntries (s .rows)
+
+abbrev pub entries : Policy → ℕ
+entries p = totalOf statementEntries p
 
 unfoldable pub overLimit : Policy → Bool
 overLimit p = either (ltb mostStatements (length p)) (either (ltb mostEntries (entries p)) (anyOf statementOver p))

@@ -9,6 +9,8 @@ pub mod Slots
 pub mod PolicyLayout
 pub mod RecordLayout
 pub mod Held
+pub mod Room
+pub mod Lying
 pub mod Told
 pub mod Holding
 pub mod Spoken

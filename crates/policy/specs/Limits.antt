@@ -11,6 +11,10 @@ recordBytes = 8192
 abbrev pub resultBytes : ℕ
 resultBytes = 6144
 
+-- numbers of a held run
+abbrev pub runNumbers : ℕ
+runNumbers = 16384
+
 -- statements in a policy; entries in it; condition rows in a statement; context entries in a record
 abbrev pub mostStatements : ℕ
 mostStatements = 16

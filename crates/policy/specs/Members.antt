@@ -3,7 +3,9 @@
 --   slot n ms        the value of the member named n: none, one, or that it is repeated
 --   known ns ms      every member's name is among ns
 --   oneOrMore f t    one thing, or a list of at least one, each read by f
-use mathlib.Core.Bool.{Bool, true, false}
+--   members f ms     each member read by f, from its raw name and its value
+--   differ f xs      no two of the things xs are alike by f
+use mathlib.Core.Bool.{Bool, true, false, not}
 use mathlib.Core.List.{List, [], _∷_}
 use Prim.Native.Nat.{ℕ}
 use Rattle.text.specs.Base.{pick}
@@ -100,3 +102,21 @@ oneOrMore f (number w) = cons (f (number w)) (read [])
 oneOrMore f (string w) = cons (f (string w)) (read [])
 oneOrMore f (list ts) = some f ts
 oneOrMore f (object ms) = cons (f (object ms)) (read [])
+
+unfoldable pub members : {A : Type 0} → (List ℕ → Json → Reading A) → Members → Reading (List A)
+members f no-members = read []
+members f (named w t ms) = cons (f w t) (members f ms)
+
+-- ---- repeats
+
+unfoldable pub hasLike : {A : Type 0} → (A → A → Bool) → A → List A → Bool
+hasLike f x [] = false
+hasLike f x (y ∷ ys) = either (f x y) (hasLike f x ys)
+
+unfoldable pub differ : {A : Type 0} → (A → A → Bool) → List A → Bool
+differ f [] = true
+differ f (x ∷ xs) = both (not (hasLike f x xs)) (differ f xs)
+
+-- things of which no two are alike
+abbrev pub differing : {A : Type 0} → (A → A → Bool) → List A → Reading (List A)
+differing f xs = only (differ f xs) xs

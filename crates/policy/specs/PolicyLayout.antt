@@ -3,10 +3,10 @@
 --   statementOf t   Effect, Action, Resource, and if they are there Sid and Condition
 --   conditionOf t   operators, each with keys, each with one value or a list: the rows as they stand
 -- Limits are no part of it (Limits).  Differs from 01: nowhere.
-use mathlib.Core.Bool.{Bool, true, false, not}
+use mathlib.Core.Bool.{Bool, true, false}
 use mathlib.Core.List.{List, [], _∷_, _++_, map}
 use Prim.Native.Nat.{ℕ}
-use lib.Dec.{eqb}
+use lib.Dec.{ltb}
 use lib.ListN.{length}
 use Rattle.text.specs.Base.{pick}
 use Rattle.text.specs.Json.{Json, null, bool, number, string, list, object, Members, no-members, named}
@@ -14,13 +14,13 @@ use Rattle.text.specs.Decoding.{textOf, sameText}
 use Rattle.policy.specs.Policy.{Effect, Allow, Deny, Operator, StringEquals, StringLike, NumericLessThanEquals}
 use Rattle.policy.specs.Policy.{Value, text, Row, Statement, Policy}
 use Rattle.policy.specs.Policy as P
-use Rattle.policy.specs.Forms.{Reading, wrong, read, both, either, same, isAction, wildcard, isResource, isSid}
+use Rattle.policy.specs.Forms.{Reading, wrong, read, both, same, isAction, wildcard, isResource, isSid}
 use Rattle.policy.specs.Forms.{isKey, symbolsOf, numberIn, sameKey}
 use Rattle.policy.specs.Words.{versionWord, statementWord, editionWord, sidWord, effectWord, actionWord}
 use Rattle.policy.specs.Words.{resourceWord, conditionWord, allowWord, denyWord, stringEqualsWord}
 use Rattle.policy.specs.Words.{stringLikeWord, numericLessThanEqualsWord}
 use Rattle.policy.specs.Members.{then, only, characters, charactersOf, isWord, slot, known, required, optional}
-use Rattle.policy.specs.Members.{cons, oneOrMore}
+use Rattle.policy.specs.Members.{oneOrMore, members, differ, differing}
 
 -- ---- entries
 
@@ -54,22 +54,15 @@ valueOf NumericLessThanEquals t = asNumber (numberOfJson t)
 
 -- ---- conditions
 
+unfoldable pub keyOf : List ℕ → Reading (List ℕ)
+keyOf w = then (characters w) (λ k. only (isKey k) k)
+
 unfoldable pub rowOf : Operator → List ℕ → Json → Reading Row
 rowOf o w t =
-    then (characters w) (λ k. then (only (isKey k) k) (λ key. then (oneOrMore (valueOf o) t) (λ vs.
-    read (record { operator = o; key = key; entries = vs }))))
+    then (keyOf w) (λ k. then (oneOrMore (valueOf o) t) (λ vs. read (record { operator = o; key = k; entries = vs })))
 
-unfoldable pub hasKey : List ℕ → List Row → Bool
-hasKey k [] = false
-hasKey k (r ∷ rs) = either (sameKey k (r .key)) (hasKey k rs)
-
--- a row before others of the same operator, whose keys are other ones
-unfoldable pub ahead : Row → List Row → Reading (List Row)
-ahead r rs = only (not (hasKey (r .key) rs)) (r ∷ rs)
-
-unfoldable pub rowsFrom : Operator → Members → Reading (List Row)
-rowsFrom o no-members = read []
-rowsFrom o (named w t ms) = then (rowOf o w t) (λ r. then (rowsFrom o ms) (ahead r))
+abbrev pub sameRow : Row → Row → Bool
+sameRow r q = sameKey (r .key) (q .key)
 
 -- the rows of one operator, of which there is at least one
 unfoldable pub rowsOf : Operator → Json → Reading (List Row)
@@ -79,7 +72,7 @@ rowsOf o (number w) = wrong
 rowsOf o (string w) = wrong
 rowsOf o (list ts) = wrong
 rowsOf o (object no-members) = wrong
-rowsOf o (object (named w t ms)) = rowsFrom o (named w t ms)
+rowsOf o (object (named w t ms)) = then (members (rowOf o) (named w t ms)) (differing sameRow)
 
 unfoldable pub operatorOf : List ℕ → Reading Operator
 operatorOf w =
@@ -98,18 +91,23 @@ sameOperator NumericLessThanEquals StringEquals = false
 sameOperator NumericLessThanEquals StringLike = false
 sameOperator NumericLessThanEquals NumericLessThanEquals = true
 
-unfoldable pub usesOperator : Operator → List Row → Bool
-usesOperator o [] = false
-usesOperator o (r ∷ rs) = either (sameOperator o (r .operator)) (usesOperator o rs)
+-- an operator and its rows
+pub record Group : Type 0 where
+  pub operator : Operator
+  pub rows : List Row
 
--- rows of one operator before those of others, none of which is the same again
-unfoldable pub before : Operator → List Row → List Row → Reading (List Row)
-before o rs others = only (not (usesOperator o others)) (rs ++ others)
+abbrev pub sameGroup : Group → Group → Bool
+sameGroup g h = sameOperator (g .operator) (h .operator)
 
-unfoldable pub operatorsFrom : Members → Reading (List Row)
-operatorsFrom no-members = read []
-operatorsFrom (named w t ms) =
-    then (operatorOf w) (λ o. then (rowsOf o t) (λ rs. then (operatorsFrom ms) (before o rs)))
+unfoldable pub groupOf : List ℕ → Json → Reading Group
+groupOf w t = then (operatorOf w) (λ o. then (rowsOf o t) (λ rs. read (record { operator = o; rows = rs })))
+
+unfoldable pub rowsIn : List Group → List Row
+rowsIn [] = []
+rowsIn (g ∷ gs) = g .rows ++ rowsIn gs
+
+unfoldable pub operatorsIn : Members → Reading (List Row)
+operatorsIn ms = then (members groupOf ms) (λ gs. only (differ sameGroup gs) (rowsIn gs))
 
 unfoldable pub conditionOf : Json → Reading (List Row)
 conditionOf null = wrong
@@ -118,7 +116,7 @@ conditionOf (number w) = wrong
 conditionOf (string w) = wrong
 conditionOf (list ts) = wrong
 conditionOf (object no-members) = wrong
-conditionOf (object (named w t ms)) = operatorsFrom (named w t ms)
+conditionOf (object (named w t ms)) = operatorsIn (named w t ms)
 
 -- ---- statements
 
@@ -148,21 +146,15 @@ statementOf (object ms) =
 
 -- ---- the policy
 
--- a Sid that is there stands in another statement too
-unfoldable pub hasSid : List ℕ → Policy → Bool
-hasSid i [] = false
-hasSid [] (s ∷ p) = false
-hasSid (c ∷ i) (s ∷ p) = either (same (c ∷ i) (s .sid)) (hasSid (c ∷ i) p)
-
-unfoldable pub sidsDiffer : Policy → Bool
-sidsDiffer [] = true
-sidsDiffer (s ∷ p) = both (not (hasSid (s .sid) p)) (sidsDiffer p)
+-- the same Sid; one of no characters is none
+abbrev pub sameSid : Statement → Statement → Bool
+sameSid s r = both (ltb 0 (length (s .sid))) (same (s .sid) (r .sid))
 
 unfoldable pub policyIn : Members → Reading Policy
 policyIn ms =
     then (required (λ t. only (isWord editionWord t) t) (slot versionWord ms)) (λ v.
     then (required (oneOrMore statementOf) (slot statementWord ms)) (λ p.
-    only (sidsDiffer p) p))
+    differing sameSid p))
 
 unfoldable pub policyOf : Json → Reading Policy
 policyOf null = wrong

@@ -3,7 +3,7 @@
 --   requestOf t   ActionNames with one action; ResourceArns absent or with one; ContextEntries absent or a list
 --   contextOf t   ContextKeyName, ContextKeyType and ContextKeyValues with one string
 -- Differs from 01: nowhere.
-use mathlib.Core.Bool.{Bool, true, false, not}
+use mathlib.Core.Bool.{Bool, true, false}
 use mathlib.Core.List.{List, [], _∷_}
 use Prim.Native.Nat.{ℕ}
 use lib.Dec.{eqb, leb}
@@ -17,7 +17,7 @@ use Rattle.policy.specs.Forms.{Reading, wrong, read, both, either, all, 
 use Rattle.policy.specs.Forms.{isKey, numberIn, sameKey}
 use Rattle.policy.specs.Words.{actionNamesWord, resourceArnsWord, contextEntriesWord, contextKeyNameWord}
 use Rattle.policy.specs.Words.{contextKeyTypeWord, contextKeyValuesWord, stringTypeWord, numericTypeWord}
-use Rattle.policy.specs.Members.{then, only, charactersOf, isWord, slot, known, required, optional, each}
+use Rattle.policy.specs.Members.{then, only, charactersOf, isWord, slot, known, required, optional, each, differ}
 
 -- a list of exactly one thing
 unfoldable pub onlyOne : {A : Type 0} → (Json → Reading A) → Json → Reading A
@@ -73,20 +73,16 @@ contextOf (object ms) =
     then (typedOf t cs) (λ v. read (record { key = k; value = v }))))))
     wrong
 
-unfoldable pub hasKey : List ℕ → List Context → Bool
-hasKey k [] = false
-hasKey k (c ∷ cs) = either (sameKey k (c .key)) (hasKey k cs)
-
-unfoldable pub keysDiffer : List Context → Bool
-keysDiffer [] = true
-keysDiffer (c ∷ cs) = both (not (hasKey (c .key) cs)) (keysDiffer cs)
+abbrev pub sameContext : Context → Context → Bool
+sameContext c d = sameKey (c .key) (d .key)
 
 unfoldable pub contextsOf : Json → Reading (List Context)
 contextsOf null = wrong
 contextsOf (bool b) = wrong
 contextsOf (number w) = wrong
 contextsOf (string w) = wrong
-contextsOf (list ts) = then (each contextOf ts) (λ cs. only (both (leb (length cs) mostContext) (keysDiffer cs)) cs)
+contextsOf (list ts) = then (each contextOf ts) (λ cs. only (both (leb (length cs) mostContext)
+    (differ sameContext cs)) cs)
 contextsOf (object ms) = wrong
 
 -- ---- the record

@@ -5,14 +5,19 @@ use Rattle.policy.specs.declared.words.Effect.{Effect}
 use Rattle.policy.specs.declared.words.Effect.the-variants as E
 use Rattle.policy.specs.declared.words.Operator.{Operator}
 use Rattle.policy.specs.declared.words.Operator.the-variants as O
+use Rattle.policy.specs.declared.words.Word.{Word}
+use Rattle.policy.specs.declared.words.Word.the-variants as W
 
 abbrev pub toldEffect : Effect → Reading P.Effect
 toldEffect E.Allow = read P.Allow
 toldEffect E.Deny = read P.Deny
 toldEffect E.Wrong = wrong
 
-abbrev pub toldOperator : Operator → Reading P.Operator
-toldOperator O.StringEquals = read P.StringEquals
-toldOperator O.StringLike = read P.StringLike
-toldOperator O.NumericLessThanEquals = read P.NumericLessThanEquals
-toldOperator O.Wrong = wrong
+abbrev pub operatorIs : Operator → P.Operator
+operatorIs O.StringEquals = P.StringEquals
+operatorIs O.StringLike = P.StringLike
+operatorIs O.NumericLessThanEquals = P.NumericLessThanEquals
+
+abbrev pub toldOperator : Word → Reading P.Operator
+toldOperator (W.Is o) = read (operatorIs o)
+toldOperator W.Wrong = wrong

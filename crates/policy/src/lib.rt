@@ -4,4 +4,6 @@ pub mod forms;
 pub mod holding;
 pub mod members;
 pub mod refusals;
+pub mod rows;
+pub mod runs;
 pub mod words;

@@ -6,7 +6,8 @@ ghost use Rattle.text.specs.Contents.{Stands, Standing};
 ghost use Rattle.policy.specs.Words.{editionWord};
 ghost use Rattle.policy.specs.Members.{isWord};
 ghost use Rattle.policy.specs.PolicyLayout.{effectOf, operatorOf};
-ghost use Rattle.policy.specs.Spoken.{toldEffect, toldOperator};
+ghost use Rattle.policy.specs.Spoken.{toldEffect, operatorIs, toldOperator};
+ghost use Rattle.policy.specs.Held.{operatorNumber};
 use crate::holding;
 
 pub enum Effect {
@@ -19,6 +20,11 @@ pub enum Operator {
     StringEquals,
     StringLike,
     NumericLessThanEquals,
+}
+
+// An operator; or a name that is none.
+pub enum Word {
+    Is(Operator),
     Wrong,
 }
 
@@ -58,17 +64,27 @@ pub fn effect_at(s: &[u8], v: usize) -> Effect
 }
 
 // The operator that a raw name is.
-pub fn operator_named(raw: &[u8]) -> Operator
+pub fn operator_named(raw: &[u8]) -> Word
     ensures { λ r. ⌜ toldOperator r ≡ operatorOf (now (raw .entry)) ⌝ }
 {
     if text::strings::same(raw, b"StringEquals") {
-        return Operator::StringEquals;
+        return Word::Is(Operator::StringEquals);
     }
     if text::strings::same(raw, b"StringLike") {
-        return Operator::StringLike;
+        return Word::Is(Operator::StringLike);
     }
     if text::strings::same(raw, b"NumericLessThanEquals") {
-        return Operator::NumericLessThanEquals;
+        return Word::Is(Operator::NumericLessThanEquals);
     }
-    Operator::Wrong
+    Word::Wrong
+}
+
+pub fn operator_number(o: Operator) -> u32
+    ensures { λ r. ⌜ r ≡ operatorNumber (operatorIs o) ⌝ }
+{
+    match o {
+        Operator::StringEquals => 1,
+        Operator::StringLike => 2,
+        Operator::NumericLessThanEquals => 3,
+    }
 }

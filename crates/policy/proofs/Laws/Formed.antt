@@ -1,26 +1,52 @@
 -- A text held and then tested or rewritten in its place.
 use mathlib.Core.Path.{_≡_, refl, sym, ap, _∙_, subst}
 use mathlib.Core.Bool.{Bool, true, false}
-use mathlib.Core.Logic.{_⊎_, inl, inr}
 use mathlib.Core.List.{List, [], _∷_, _++_, append-assoc}
-use Prim.Native.Nat.{ℕ, zero, suc, _+_, _-_, _≤_, _<_}
+use Prim.Native.Nat.{ℕ, _+_, _-_, _≤_, _<_}
 use native.Mathlib.Omega.{arith}
-use lib.ListN.{length, take, drop, length-append, take-append-drop}
+use lib.ListN.{length, take, drop, set, length-append, length-set}
 use lib.Seq.{take-at, drop-at, length-take-le}
 use borrow.Rule.Slice.PartMut.{midOf, postOf, putMid, same-len-mid}
-use Rattle.policy.specs.Forms.{Reading, wrong, read}
+use Rattle.text.specs.Putting.{lay}
+use Rattle.policy.specs.Forms.{Reading, wrong, read, symbolsOf, isResource}
 use Rattle.policy.specs.Members.{then, only}
 use Rattle.policy.specs.Held.{heldText}
-use Rattle.policy.specs.Holding.{Extends, TextHeld, TooLong, HoldsText}
+use Rattle.policy.specs.Holding.{Extends, Laid, Left, Holds, Gathered, Gathers, Kept}
 use Rattle.policy.specs.declared.holding.Held.{Held}
 use Rattle.policy.specs.declared.holding.Held.the-variants.{Past, Wrong}
+use Rattle.policy.specs.declared.holding.Counted.{Counted}
+use Rattle.policy.specs.declared.holding.Counted.the-variants as C
+use Rattle.policy.proofs.Laws.Holding.{laid-extends}
+use Rattle.policy.proofs.Laws.Extends.{extends-all, extends-within, extends-then, extends-front, extends-after}
+
+-- ---- the answer
+
+pub holds-past :
+    {A : Type 0} (h : A → List ℕ) (run run′ : List ℕ) (at : ℕ) (x : Reading A) {r : Held} {p : ℕ}
+    → Holds h run run′ at x r → r ≡ Past p → Laid h run run′ at x p
+holds-past h run run′ at x f e = subst (Holds h run run′ at x) e f
+
+pub holds-wrong :
+    {A : Type 0} (h : A → List ℕ) (run run′ : List ℕ) (at : ℕ) (x : Reading A) {r : Held}
+    → Holds h run run′ at x r → r ≡ Wrong → Left run run′ x
+holds-wrong h run run′ at x f e = subst (Holds h run run′ at x) e f
+
+pub gathers-several :
+    {A : Type 0} (h : A → List ℕ) (run run′ : List ℕ) (at : ℕ) (x : Reading (List A)) {r : Counted} {p n : ℕ}
+    → Gathers h run run′ at x r → r ≡ C.Several p n → Gathered h run run′ at x p n
+gathers-several h run run′ at x f e = subst (Gathers h run run′ at x) e f
+
+pub gathers-wrong :
+    {A : Type 0} (h : A → List ℕ) (run run′ : List ℕ) (at : ℕ) (x : Reading (List A)) {r : Counted}
+    → Gathers h run run′ at x r → r ≡ C.Wrong → Left run run′ x
+gathers-wrong h run run′ at x f e = subst (Gathers h run run′ at x) e f
 
 -- ---- the run
 
-module _ {run run′ : List ℕ} {at most p : ℕ} {x : Reading (List ℕ)} (room : at + most < length run)
-    (h : TextHeld run run′ at most x p) where
+module _ {run run′ : List ℕ} {at p : ℕ} {x : Reading (List ℕ)} (low : at ≤ length run)
+    (h : Laid heldText run run′ at x p) where
   abbrev cs : List ℕ
-  cs = h .characters
+  cs = h .thing
 
   abbrev front : List ℕ
   front = take at run ++ (length cs ∷ [])
@@ -30,19 +56,16 @@ module _ {run run′ : List ℕ} {at most p : ℕ} {x : Reading (List ℕ)} (roo
 
   front-length : length front ≡ at + 1
   front-length = length-append (take at run) (length cs ∷ [])
-      ∙ ap (λ (n : ℕ). n + 1) (length-take-le at run (omega arith))
+      ∙ ap (λ (n : ℕ). n + 1) (length-take-le at run low)
 
   all-is : run′ ≡ front ++ (cs ++ rest)
-  all-is =
-      sym (take-append-drop p run′)
-      ∙ ap (λ (l : List ℕ). l ++ rest) (h .extends .is ∙ sym (append-assoc (take at run) (length cs ∷ []) cs))
-      ∙ append-assoc front cs rest
+  all-is = extends-all (h .extends) low ∙ sym (append-assoc (take at run) (length cs ∷ []) (cs ++ rest))
 
   pub past-first : at + 1 ≤ p
   past-first = omega (arith, h .extends .place)
 
   pub past-within : p ≤ length run′
-  past-within = omega (arith, h .extends .place, h .extends .size, h .short)
+  past-within = extends-within (h .extends) low
 
   abbrev many : ℕ
   many = p - (at + 1)
@@ -59,42 +82,48 @@ module _ {run run′ : List ℕ} {at most p : ℕ} {x : Reading (List ℕ)} (roo
   front-is : take (at + 1) run′ ≡ front
   front-is = ap (take (at + 1)) all-is ∙ take-at front (cs ++ rest) (at + 1) front-length
 
-  pub relaid : (ys : List ℕ) → length ys ≡ length cs → Extends run (putMid (at + 1) many run′ ys) at (heldText ys) p
-  relaid ys e =
-      let l : length (front ++ ys) ≡ p = length-append front ys ∙ omega (arith, front-length, e, h .extends .place) in
-      record {
-        size = same-len-mid (at + 1) many run′ ys (e ∙ ap length (sym part-is)) ∙ h .extends .size;
-        place = omega (arith, e, h .extends .place);
-        is = ap (λ (l : List ℕ). take p (l ++ (ys ++ postOf (at + 1) many run′))) front-is
-            ∙ ap (take p) (sym (append-assoc front ys (postOf (at + 1) many run′)))
-            ∙ take-at (front ++ ys) (postOf (at + 1) many run′) p l
-            ∙ append-assoc (take at run) (length cs ∷ []) ys
-            ∙ ap (λ (n : ℕ). take at run ++ (n ∷ ys)) (sym e);
-      }
-
   -- rewritten by g, character by character
   pub relaid-by :
       (g : List ℕ → List ℕ) (out : List ℕ) → out ≡ g (midOf (at + 1) many run′) → length (g cs) ≡ length cs
       → Extends run (putMid (at + 1) many run′ out) at (heldText (g cs)) p
-  relaid-by g out e l =
+  relaid-by g out e k =
       subst (λ (ys : List ℕ). Extends run (putMid (at + 1) many run′ ys) at (heldText (g cs)) p)
-      (sym (e ∙ ap g part-is)) (relaid (g cs) l)
+      (sym (e ∙ ap g part-is)) (relaid (g cs) k)
+    where
+      relaid : (ys : List ℕ) → length ys ≡ length cs → Extends run (putMid (at + 1) many run′ ys) at (heldText ys) p
+      relaid ys e =
+          let l : length (front ++ ys) ≡ p = length-append front ys ∙ omega (arith, front-length, e, h .extends .place)
+          in
+          record {
+            size = same-len-mid (at + 1) many run′ ys (e ∙ ap length (sym part-is)) ∙ h .extends .size;
+            place = omega (arith, e, h .extends .place);
+            is = ap (λ (l : List ℕ). take p (l ++ (ys ++ postOf (at + 1) many run′))) front-is
+                ∙ ap (take p) (sym (append-assoc front ys (postOf (at + 1) many run′)))
+                ∙ take-at (front ++ ys) (postOf (at + 1) many run′) p l
+                ∙ append-assoc (take at run) (length cs ∷ []) ys
+                ∙ ap (λ (n : ℕ). take at run ++ (n ∷ ys)) (sym e);
+          }
+
+  -- rewritten by fewer characters at the beginning, their number in front
+  pub shortened :
+      (ys out : List ℕ) → out ≡ lay ys (midOf (at + 1) many run′) → length ys ≤ length cs
+      → Extends run (set (putMid (at + 1) many run′ out) at (length ys)) at (heldText ys) (at + 1 + length ys)
+  shortened ys out e few =
+      let q : length (midOf (at + 1) many run′) ≡ length cs = ap length part-is in
+      let w = laid-extends run′ ys (at + 1) many (omega (arith, past-within, past-first)) (omega (arith, q, few)) in
+      let b : length (take at run) ≡ at = length-take-le at run low in
+      let z : take (at + 1) run′ ≡ take at run ++ (length cs ∷ []) = front-is in
+      let keep : take at run′ ≡ take at run =
+      ap (take at) (extends-all (h .extends) low) ∙ take-at (take at run) (heldText cs ++ rest) at b in
+      let size : length run′ ≡ length run = h .extends .size in
+      subst (λ (l : List ℕ). Extends run (set (putMid (at + 1) many run′ l) at (length ys)) at (heldText ys)
+      (at + 1 + length ys)) (sym e)
+      (extends-after (record { size = size; is = keep })
+      (extends-front (length ys) (omega (arith, past-within, past-first)) w))
 
   -- what a test of the part tells of the text
   pub part-told : (f : List ℕ → Bool) {b c : Bool} → b ≡ f (midOf (at + 1) many run′) → b ≡ c → f cs ≡ c
   part-told f e k = ap f (sym part-is) ∙ sym e ∙ k
-
--- ---- the answer
-
-pub held-past :
-    {run run′ : List ℕ} {at most p : ℕ} {x : Reading (List ℕ)} {r : Held}
-    → HoldsText run run′ at most x r → r ≡ Past p → TextHeld run run′ at most x p
-held-past {run} {run′} {at} {most} {p} {x} h e = subst (HoldsText run run′ at most x) e h
-
-pub held-wrong :
-    (run run′ : List ℕ) (at most : ℕ) (x : Reading (List ℕ)) (r : Held)
-    → HoldsText run run′ at most x r → r ≡ Wrong → (length run′ ≡ length run) × ((x ≡ wrong) ⊎ TooLong most x)
-held-wrong run run′ at most x r h e = subst (HoldsText run run′ at most x) e h
 
 -- ---- the reading
 
@@ -108,29 +137,27 @@ module _ (f : List ℕ → Bool) (g : List ℕ → List ℕ) where
   pub formed-yes : {x : Reading (List ℕ)} {cs : List ℕ} → x ≡ read cs → f cs ≡ true → formed x ≡ read (g cs)
   formed-yes {x} {cs} e n = ap formed e ∙ ap (λ (b : Bool). only b (g cs)) n
 
-  pub formed-wrong :
-      {most : ℕ} {x : Reading (List ℕ)} → ((cs : List ℕ) → length (g cs) ≡ length cs)
-      → (x ≡ wrong) ⊎ TooLong most x → (formed x ≡ wrong) ⊎ TooLong most (formed x)
-  formed-wrong l (inl e) = inl (ap formed e)
-  formed-wrong {most} {x} l (inr h) = by (f (h .characters)) refl
-    where
-      by : (b : Bool) → f (h .characters) ≡ b → (formed x ≡ wrong) ⊎ TooLong most (formed x)
-      by false n = inl (formed-no (h .said) n)
-      by true n =
-          inr (record {
-            characters = g (h .characters);
-            said = formed-yes (h .said) n;
-            long = omega (arith, l (h .characters), h .long);
-          })
+-- what is wrong stays wrong
+pub then-wrong : {A B : Type 0} {x : Reading A} (f : A → Reading B) → x ≡ wrong → then x f ≡ wrong
+then-wrong f e = ap (λ x. then x f) e
 
-  pub formed-held :
-      {run run′ run″ : List ℕ} {at most p : ℕ} {x : Reading (List ℕ)} (d : TextHeld run run′ at most x p)
-      → f (d .characters) ≡ true → length (g (d .characters)) ≡ length (d .characters)
-      → Extends run run″ at (heldText (g (d .characters))) p → TextHeld run run″ at most (formed x) p
-  formed-held d n l w =
-      record {
-        characters = g (d .characters);
-        said = formed-yes (d .said) n;
-        short = omega (arith, l, d .short);
-        extends = w;
-      }
+pub then-read : {A B : Type 0} {x : Reading A} {a : A} (f : A → Reading B) → x ≡ read a → then x f ≡ f a
+then-read f e = ap (λ x. then x f) e
+
+pub left-then :
+    {A B : Type 0} {run run′ : List ℕ} {x : Reading A} (f : A → Reading B) → Left run run′ x → Left run run′ (then x f)
+left-then f l = record { size = l .size; said = then-wrong f (l .said) }
+
+-- a Resource entry's symbols are tested after they are made
+pub resource-formed :
+    (x : Reading (List ℕ))
+    → then x (λ cs. then (symbolsOf true cs) (λ ys. only (isResource ys) ys))
+    ≡ then (then x (symbolsOf true)) (λ ys. only (isResource ys) ys)
+resource-formed wrong = refl
+resource-formed (read cs) = refl
+
+pub resource-left :
+    {run run′ : List ℕ} (x : Reading (List ℕ)) → Left run run′ (then x (symbolsOf true))
+    → Left run run′ (then x (λ cs. then (symbolsOf true cs) (λ ys. only (isResource ys) ys)))
+resource-left x l =
+    record { size = l .size; said = resource-formed x ∙ then-wrong (λ ys. only (isResource ys) ys) (l .said) }

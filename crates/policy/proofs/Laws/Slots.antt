@@ -20,10 +20,10 @@ use Rattle.policy.specs.Slots.{later, whichOf, wordAt, Turn}
 
 -- ---- a text is one word
 
-true-false : {t : Bool} → t ≡ true → t ≡ false → ⊥
+pub true-false : {t : Bool} → t ≡ true → t ≡ false → ⊥
 true-false p q = let z : true ≡ false = sym p ∙ q in let y : _≡_ {A = ℕ} 0 1 = cc in omega arith
 
-both-true : (t u : Bool) → both t u ≡ true → (t ≡ true) × (u ≡ true)
+pub both-true : (t u : Bool) → both t u ≡ true → (t ≡ true) × (u ≡ true)
 both-true true u e = (refl, e)
 both-true false u e = absurd (true-false e refl)
 
@@ -36,7 +36,7 @@ equal-is (x ∷ xs) (y ∷ ys) e =
     let p = both-true (eqb x y) (equal xs ys) e in
     ap (λ (z : ℕ). z ∷ xs) (eqb-true x y (p .0)) ∙ ap (λ (l : List ℕ). y ∷ l) (equal-is xs ys (p .1))
 
-same-chars : (t : Text) (n : List ℕ) → sameText t n ≡ true → t .chars ≡ n
+pub same-chars : (t : Text) (n : List ℕ) → sameText t n ≡ true → t .chars ≡ n
 unfolding sameText
 same-chars t n e = equal-is (t .chars) n (both-true (t .sound) (equal (t .chars) n) e .1)
 
@@ -50,7 +50,7 @@ unfoldable pub distinct : List (List ℕ) → Bool
 distinct [] = true
 distinct (n ∷ ns) = both (differs n ns) (distinct ns)
 
-equal-refl : (xs : List ℕ) → equal xs xs ≡ true
+pub equal-refl : (xs : List ℕ) → equal xs xs ≡ true
 unfolding equal
 equal-refl [] = refl
 equal-refl (x ∷ xs) = rw (eq-eqb x x refl) (equal-refl xs)
@@ -115,7 +115,7 @@ which-known (n ∷ ns) w h = known-on (sameText (textOf w) n) (whichOf ns w) (is
 
 -- ---- the turn's word is the name, and no other word is
 
-word-next : (n : List ℕ) (ns : List (List ℕ)) (j : ℕ) → 0 < j → wordAt (n ∷ ns) (suc j) ≡ wordAt ns j
+pub word-next : (n : List ℕ) (ns : List (List ℕ)) (j : ℕ) → 0 < j → wordAt (n ∷ ns) (suc j) ≡ wordAt ns j
 word-next n ns zero h = absurd (omega arith)
 word-next n ns (suc j) h = rw (sub-one (suc (suc j)), sub-one (suc j))
 
@@ -162,7 +162,7 @@ same-turn (n ∷ ns) (suc (suc i)) (suc (suc j)) d p q e =
     (record { from = omega arith; to = let b = q .to in omega arith })
     (sym (word-next n ns (suc i) (omega arith)) ∙ e ∙ word-next n ns (suc j) (omega arith)))
 
-bool-not : (t : Bool) → (t ≡ true → ⊥) → t ≡ false
+pub bool-not : (t : Bool) → (t ≡ true → ⊥) → t ≡ false
 bool-not true h = absurd (h refl)
 bool-not false h = refl
 

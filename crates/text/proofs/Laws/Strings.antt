@@ -22,6 +22,7 @@ use Rattle.text.proofs.Laws.Strings.Digits.{Outside, under, over}
 use Rattle.text.proofs.Laws.Strings.Reading.{meaning-apart, meaning-high, meaning-low, paired-low, paired-apart}
 use Rattle.text.proofs.Laws.Strings.Units.{units-complete}
 pub mod Digits
+pub mod Lengths
 pub mod Reading
 pub mod Runs
 pub mod Steps

@@ -1,13 +1,14 @@
 -- The text is held, tested where it lies, and its wildcards are told apart.
 use mathlib.Core.List.{map}
 use lib.ListN.{length-map}
-use mathlib.Core.Logic.{inl}
+use native.Mathlib.Omega.{arith}
 use borrow.Author.Tests.{not-true, not-false}
 use Rattle.policy.specs.Forms.{isAction, wildcard}
 use Rattle.policy.specs.Members.{charactersOf}
 use Rattle.policy.specs.PolicyLayout.{actionOf}
-use Rattle.policy.proofs.Laws.Formed.{past-first, past-within, part-told, held-past, held-wrong}
-use Rattle.policy.proofs.Laws.Formed.{formed-no, formed-wrong, formed-held, relaid-by}
+use Rattle.policy.specs.Held.{heldText}
+use Rattle.policy.proofs.Laws.Formed.{holds-past, holds-wrong, past-first, past-within, part-told, formed-no}
+use Rattle.policy.proofs.Laws.Formed.{formed-yes, left-then, relaid-by}
 use borrow.Author.Needs.{needs}
 use Rattle.policy.proofs.entries.hold_action.Statement.{statement}
 use Rattle.policy.proofs.entries.hold_action.Tie as tie
@@ -26,13 +27,10 @@ same-length c = search needs
 
 returns : tie.Need-returns
 unfolding actionOf
-returns c =
-    λ t e p.
-    let w = held-wrong (c .before .before .before .before .before .before .before .before .args .run .now) _
-    (c .before .before .before .before .before .before .before .before .args .at)
-    (c .before .before .before .before .before .before .before .before .args .most) (charactersOf t) _
-    (c .before .before .before .before .hold-text .ensures t e p) (c .enum-told .given .1) in
-    (w .0, formed-wrong isAction (map wildcard) (λ cs. length-map cs wildcard) (w .1))
+returns c = λ t e p. left-then _
+    (holds-wrong heldText (c .before .before .before .before .before .before .before .before .args .run .now) _
+    (c .before .before .before .before .before .before .before .before .args .at) (charactersOf t)
+    (c .before .before .before .before .hold-text .ensures t e p) (c .enum-told .given .1))
 
 add-first : tie.Need-add-first
 add-first c = search needs
@@ -41,21 +39,17 @@ mul-is-action : tie.Need-mul-is-action
 mul-is-action c = search needs
 
 sub-is-action : tie.Need-sub-is-action
-sub-is-action c = past-first (c .before .before .before .before .before .before .before .before .before .pre .1 .1)
-    (held-past (c .before .before .before .before .before .hold-text .ensures _ _
-    (c .before .before .before .before .before .before .before .before .before .pre .0 .is)) (c .before .h .given .1))
+sub-is-action c = past-first
+    (omega (arith, c .before .before .before .before .before .before .before .before .before .pre .roomy .room))
+    (holds-past heldText (c .before .before .before .before .before .before .before .before .before .args .run .now) _ (c .before .before .before .before .before .before .before .before .before .args .at) _ (c .before .before .before .before .before .hold-text .ensures _ _ (c .before .before .before .before .before .before .before .before .before .pre .is)) (c .before .h .given .1))
 
 part-is-action-start : tie.Need-part-is-action-start
-part-is-action-start c = past-first (c .before .before .before .before .before .before .before .before .before .before
-    .pre .1 .1) (held-past (c .before .before .before .before .before .before .hold-text .ensures _ _
-    (c .before .before .before .before .before .before .before .before .before .before .pre .0 .is))
-    (c .before .before .h .given .1))
+part-is-action-start c = past-first
+    (omega (arith, c .before .before .before .before .before .before .before .before .before .before .pre .roomy .room)) (holds-past heldText (c .before .before .before .before .before .before .before .before .before .before .args .run .now) _ (c .before .before .before .before .before .before .before .before .before .before .args .at) _ (c .before .before .before .before .before .before .hold-text .ensures _ _ (c .before .before .before .before .before .before .before .before .before .before .pre .is)) (c .before .before .h .given .1))
 
 part-is-action-end : tie.Need-part-is-action-end
-part-is-action-end c = past-within (c .before .before .before .before .before .before .before .before .before .before
-    .pre .1 .1) (held-past (c .before .before .before .before .before .before .hold-text .ensures _ _
-    (c .before .before .before .before .before .before .before .before .before .before .pre .0 .is))
-    (c .before .before .h .given .1))
+part-is-action-end c = past-within
+    (omega (arith, c .before .before .before .before .before .before .before .before .before .before .pre .roomy .room)) (holds-past heldText (c .before .before .before .before .before .before .before .before .before .before .args .run .now) _ (c .before .before .before .before .before .before .before .before .before .before .args .at) _ (c .before .before .before .before .before .before .hold-text .ensures _ _ (c .before .before .before .before .before .before .before .before .before .before .pre .is)) (c .before .before .h .given .1))
 
 is-action-requires : tie.Need-is-action-requires
 is-action-requires c κs = search needs
@@ -66,34 +60,26 @@ same-length-2 c = search needs
 returns-2 : tie.Need-returns-2
 unfolding actionOf
 returns-2 c =
-    λ t e p.
-    let d = held-past (c .before .before .before .before .before .before .before .before .before .hold-text .ensures t
-    e p) (c .before .before .before .before .before .h .given .1) in
-    let n = part-told (c .before .before .before .before .before .before .before .before .before .before .before
-    .before .before .pre .1 .1) d isAction (c .before .is-action .ensures)
-    (not-true (c .before .is-action .result) (c .if1 .taken)) in
-    (d .extends .size, inl (formed-no isAction (map wildcard) (d .said) n))
+    λ t e p. let d = (holds-past heldText
+    (c .before .before .before .before .before .before .before .before .before .before .before .before .before .args .run .now) _ (c .before .before .before .before .before .before .before .before .before .before .before .before .before .args .at) (charactersOf t) (c .before .before .before .before .before .before .before .before .before .hold-text .ensures t e p) (c .before .before .before .before .before .h .given .1)) in
+    let n = part-told (omega
+    (arith, c .before .before .before .before .before .before .before .before .before .before .before .before .before .pre .roomy .room)) d isAction (c .before .is-action .ensures) (not-true (c .before .is-action .result) (c .if1 .taken)) in
+    record { size = d .extends .size; said = formed-no isAction (map wildcard) (d .said) n }
 
 mul-wildcards : tie.Need-mul-wildcards
 mul-wildcards c = search needs
 
 sub-wildcards : tie.Need-sub-wildcards
-sub-wildcards c = past-first (c .before .before .before .before .before .before .before .before .before .before
-    .before .before .before .pre .1 .1) (held-past (c .before .before .before .before .before .before .before .before
-    .before .hold-text .ensures _ _ (c .before .before .before .before .before .before .before .before .before .before
-    .before .before .before .pre .0 .is)) (c .before .before .before .before .before .h .given .1))
+sub-wildcards c = past-first
+    (omega (arith, c .before .before .before .before .before .before .before .before .before .before .before .before .before .pre .roomy .room)) (holds-past heldText (c .before .before .before .before .before .before .before .before .before .before .before .before .before .args .run .now) _ (c .before .before .before .before .before .before .before .before .before .before .before .before .before .args .at) _ (c .before .before .before .before .before .before .before .before .before .hold-text .ensures _ _ (c .before .before .before .before .before .before .before .before .before .before .before .before .before .pre .is)) (c .before .before .before .before .before .h .given .1))
 
 part-wildcards-start : tie.Need-part-wildcards-start
-part-wildcards-start c = past-first (c .before .before .before .before .before .before .before .before .before .before
-    .before .before .before .pre .1 .1) (held-past (c .before .before .before .before .before .before .before .before
-    .before .hold-text .ensures _ _ (c .before .before .before .before .before .before .before .before .before .before
-    .before .before .before .pre .0 .is)) (c .before .before .before .before .before .h .given .1))
+part-wildcards-start c = past-first
+    (omega (arith, c .before .before .before .before .before .before .before .before .before .before .before .before .before .pre .roomy .room)) (holds-past heldText (c .before .before .before .before .before .before .before .before .before .before .before .before .before .args .run .now) _ (c .before .before .before .before .before .before .before .before .before .before .before .before .before .args .at) _ (c .before .before .before .before .before .before .before .before .before .hold-text .ensures _ _ (c .before .before .before .before .before .before .before .before .before .before .before .before .before .pre .is)) (c .before .before .before .before .before .h .given .1))
 
 part-wildcards-end : tie.Need-part-wildcards-end
-part-wildcards-end c = past-within (c .before .before .before .before .before .before .before .before .before .before
-    .before .before .before .pre .1 .1) (held-past (c .before .before .before .before .before .before .before .before
-    .before .hold-text .ensures _ _ (c .before .before .before .before .before .before .before .before .before .before
-    .before .before .before .pre .0 .is)) (c .before .before .before .before .before .h .given .1))
+part-wildcards-end c = past-within
+    (omega (arith, c .before .before .before .before .before .before .before .before .before .before .before .before .before .pre .roomy .room)) (holds-past heldText (c .before .before .before .before .before .before .before .before .before .before .before .before .before .args .run .now) _ (c .before .before .before .before .before .before .before .before .before .before .before .before .before .args .at) _ (c .before .before .before .before .before .before .before .before .before .hold-text .ensures _ _ (c .before .before .before .before .before .before .before .before .before .before .before .before .before .pre .is)) (c .before .before .before .before .before .h .given .1))
 
 wildcards-requires : tie.Need-wildcards-requires
 wildcards-requires c κs = search needs
@@ -104,19 +90,16 @@ same-length-3 c = search needs
 returns-3 : tie.Need-returns-3
 unfolding actionOf
 returns-3 c =
-    λ t e p.
-    let d = held-past (c .before .before .before .before .before .before .before .before .before .before .before
-    .before .before .hold-text .ensures t e p) (c .before .before .before .before .before .before .before .before
-    .before .h .given .1) in
-    let n = part-told (c .before .before .before .before .before .before .before .before .before .before .before
-    .before .before .before .before .before .before .pre .1 .1) d isAction
-    (c .before .before .before .before .before .is-action .ensures)
-    (not-false (c .before .before .before .before .before .is-action .result)
-    (c .before .before .before .before .if1 .left)) in
-    formed-held isAction (map wildcard) d n (length-map (d .characters) wildcard)
-    (relaid-by (c .before .before .before .before .before .before .before .before .before .before .before .before
-    .before .before .before .before .before .pre .1 .1) d (map wildcard) _ (c .before .before .wildcards .ensures)
-    (length-map (d .characters) wildcard))
+    λ t e p. let d = (holds-past heldText
+    (c .before .before .before .before .before .before .before .before .before .before .before .before .before .before .before .before .before .args .run .now) _ (c .before .before .before .before .before .before .before .before .before .before .before .before .before .before .before .before .before .args .at) (charactersOf t) (c .before .before .before .before .before .before .before .before .before .before .before .before .before .hold-text .ensures t e p) (c .before .before .before .before .before .before .before .before .before .h .given .1)) in
+    let n = part-told (omega
+    (arith, c .before .before .before .before .before .before .before .before .before .before .before .before .before .before .before .before .before .pre .roomy .room)) d isAction (c .before .before .before .before .before .is-action .ensures) (not-false (c .before .before .before .before .before .is-action .result) (c .before .before .before .before .if1 .left)) in
+    record {
+      thing = map wildcard (d .thing);
+      said = formed-yes isAction (map wildcard) (d .said) n;
+      extends = relaid-by (omega
+          (arith, c .before .before .before .before .before .before .before .before .before .before .before .before .before .before .before .before .before .pre .roomy .room)) d (map wildcard) _ (c .before .before .wildcards .ensures) (length-map (d .thing) wildcard);
+    }
 
 pub hold-action-spec : {M : Type 1} → statement M
 hold-action-spec =

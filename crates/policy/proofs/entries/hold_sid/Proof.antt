@@ -1,12 +1,13 @@
--- The text is held, and then tested where it lies.
-use mathlib.Core.Path.{refl}
-use mathlib.Core.Logic.{inl}
+-- The text is held and tested where it lies.
+use mathlib.Core.Path.{sym, _∙_}
+use native.Mathlib.Omega.{arith}
 use borrow.Author.Tests.{not-true, not-false}
 use Rattle.policy.specs.Forms.{isSid}
 use Rattle.policy.specs.Members.{charactersOf}
 use Rattle.policy.specs.PolicyLayout.{sidOf}
-use Rattle.policy.proofs.Laws.Formed.{past-first, past-within, part-told, held-past, held-wrong}
-use Rattle.policy.proofs.Laws.Formed.{formed-no, formed-wrong, formed-held}
+use Rattle.policy.specs.Held.{heldText}
+use Rattle.policy.proofs.Laws.Formed.{holds-past, holds-wrong, past-first, past-within, part-told, formed-no}
+use Rattle.policy.proofs.Laws.Formed.{formed-yes, left-then}
 use borrow.Author.Needs.{needs}
 use Rattle.policy.proofs.entries.hold_sid.Statement.{statement}
 use Rattle.policy.proofs.entries.hold_sid.Tie as tie
@@ -25,13 +26,10 @@ same-length c = search needs
 
 returns : tie.Need-returns
 unfolding sidOf
-returns c =
-    λ t e p.
-    let w = held-wrong (c .before .before .before .before .before .before .before .before .args .run .now) _
-    (c .before .before .before .before .before .before .before .before .args .at)
-    (c .before .before .before .before .before .before .before .before .args .most) (charactersOf t) _
-    (c .before .before .before .before .hold-text .ensures t e p) (c .enum-told .given .1) in
-    (w .0, formed-wrong isSid (λ cs. cs) (λ cs. refl) (w .1))
+returns c = λ t e p. left-then _
+    (holds-wrong heldText (c .before .before .before .before .before .before .before .before .args .run .now) _
+    (c .before .before .before .before .before .before .before .before .args .at) (charactersOf t)
+    (c .before .before .before .before .hold-text .ensures t e p) (c .enum-told .given .1))
 
 add-first : tie.Need-add-first
 add-first c = search needs
@@ -40,21 +38,17 @@ mul-is-sid : tie.Need-mul-is-sid
 mul-is-sid c = search needs
 
 sub-is-sid : tie.Need-sub-is-sid
-sub-is-sid c = past-first (c .before .before .before .before .before .before .before .before .before .pre .1 .1)
-    (held-past (c .before .before .before .before .before .hold-text .ensures _ _
-    (c .before .before .before .before .before .before .before .before .before .pre .0 .is)) (c .before .h .given .1))
+sub-is-sid c = past-first
+    (omega (arith, c .before .before .before .before .before .before .before .before .before .pre .roomy .room))
+    (holds-past heldText (c .before .before .before .before .before .before .before .before .before .args .run .now) _ (c .before .before .before .before .before .before .before .before .before .args .at) _ (c .before .before .before .before .before .hold-text .ensures _ _ (c .before .before .before .before .before .before .before .before .before .pre .is)) (c .before .h .given .1))
 
 part-is-sid-start : tie.Need-part-is-sid-start
-part-is-sid-start c = past-first (c .before .before .before .before .before .before .before .before .before .before
-    .pre .1 .1) (held-past (c .before .before .before .before .before .before .hold-text .ensures _ _
-    (c .before .before .before .before .before .before .before .before .before .before .pre .0 .is))
-    (c .before .before .h .given .1))
+part-is-sid-start c = past-first
+    (omega (arith, c .before .before .before .before .before .before .before .before .before .before .pre .roomy .room)) (holds-past heldText (c .before .before .before .before .before .before .before .before .before .before .args .run .now) _ (c .before .before .before .before .before .before .before .before .before .before .args .at) _ (c .before .before .before .before .before .before .hold-text .ensures _ _ (c .before .before .before .before .before .before .before .before .before .before .pre .is)) (c .before .before .h .given .1))
 
 part-is-sid-end : tie.Need-part-is-sid-end
-part-is-sid-end c = past-within (c .before .before .before .before .before .before .before .before .before .before
-    .pre .1 .1) (held-past (c .before .before .before .before .before .before .hold-text .ensures _ _
-    (c .before .before .before .before .before .before .before .before .before .before .pre .0 .is))
-    (c .before .before .h .given .1))
+part-is-sid-end c = past-within
+    (omega (arith, c .before .before .before .before .before .before .before .before .before .before .pre .roomy .room)) (holds-past heldText (c .before .before .before .before .before .before .before .before .before .before .args .run .now) _ (c .before .before .before .before .before .before .before .before .before .before .args .at) _ (c .before .before .before .before .before .before .hold-text .ensures _ _ (c .before .before .before .before .before .before .before .before .before .before .pre .is)) (c .before .before .h .given .1))
 
 is-sid-requires : tie.Need-is-sid-requires
 is-sid-requires c κs = search needs
@@ -65,13 +59,11 @@ same-length-2 c = search needs
 returns-2 : tie.Need-returns-2
 unfolding sidOf
 returns-2 c =
-    λ t e p.
-    let d = held-past (c .before .before .before .before .before .before .before .before .before .hold-text .ensures t
-    e p) (c .before .before .before .before .before .h .given .1) in
-    let n = part-told (c .before .before .before .before .before .before .before .before .before .before .before
-    .before .before .pre .1 .1) d isSid (c .before .is-sid .ensures)
-    (not-true (c .before .is-sid .result) (c .if1 .taken)) in
-    (d .extends .size, inl (formed-no isSid (λ cs. cs) (d .said) n))
+    λ t e p. let d = (holds-past heldText
+    (c .before .before .before .before .before .before .before .before .before .before .before .before .before .args .run .now) _ (c .before .before .before .before .before .before .before .before .before .before .before .before .before .args .at) (charactersOf t) (c .before .before .before .before .before .before .before .before .before .hold-text .ensures t e p) (c .before .before .before .before .before .h .given .1)) in
+    let n = part-told (omega
+    (arith, c .before .before .before .before .before .before .before .before .before .before .before .before .before .pre .roomy .room)) d isSid (c .before .is-sid .ensures) (not-true (c .before .is-sid .result) (c .if1 .taken)) in
+    record { size = d .extends .size; said = formed-no isSid (λ cs. cs) (d .said) n }
 
 same-length-3 : tie.Need-same-length-3
 same-length-3 c = search needs
@@ -79,13 +71,11 @@ same-length-3 c = search needs
 returns-3 : tie.Need-returns-3
 unfolding sidOf
 returns-3 c =
-    λ t e p.
-    let d = held-past (c .before .before .before .before .before .before .before .before .before .hold-text .ensures t
-    e p) (c .before .before .before .before .before .h .given .1) in
-    let n = part-told (c .before .before .before .before .before .before .before .before .before .before .before
-    .before .before .pre .1 .1) d isSid (c .before .is-sid .ensures)
-    (not-false (c .before .is-sid .result) (c .if1 .left)) in
-    formed-held isSid (λ cs. cs) d n (refl) (d .extends)
+    λ t e p. let d = (holds-past heldText
+    (c .before .before .before .before .before .before .before .before .before .before .before .before .before .args .run .now) _ (c .before .before .before .before .before .before .before .before .before .before .before .before .before .args .at) (charactersOf t) (c .before .before .before .before .before .before .before .before .before .hold-text .ensures t e p) (c .before .before .before .before .before .h .given .1)) in
+    let n = part-told (omega
+    (arith, c .before .before .before .before .before .before .before .before .before .before .before .before .before .pre .roomy .room)) d isSid (c .before .is-sid .ensures) (not-false (c .before .is-sid .result) (c .if1 .left)) in
+    record { thing = d .thing; said = formed-yes isSid (λ cs. cs) (d .said) n; extends = d .extends }
 
 pub hold-sid-spec : {M : Type 1} → statement M
 hold-sid-spec =

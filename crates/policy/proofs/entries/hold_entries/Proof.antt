@@ -1,0 +1,177 @@
+-- One entry or those of a list are held behind the place of their number, which is written last.
+use mathlib.Core.Path.{sym}
+use Prim.Native.Nat.{_≤_}
+use native.Mathlib.Omega.{arith}
+use borrow.Author.Tests.{not-true, not-false}
+use Rattle.policy.specs.Members.{each}
+use Rattle.policy.specs.Held.{heldValue}
+use Rattle.policy.specs.Holding.{isList, entryOf}
+use Rattle.policy.proofs.Laws.Formed.{holds-past, holds-wrong, gathers-several, gathers-wrong}
+use Rattle.policy.proofs.Laws.Several.{kind-told, is-list, list-holdable, one-left, one-laid, list-left}
+use Rattle.policy.proofs.Laws.Several.{list-none, list-laid, gathered-few, value-some, list-stands}
+use borrow.Author.Needs.{needs}
+use Rattle.policy.proofs.entries.hold_entries.Statement.{statement}
+use Rattle.policy.proofs.entries.hold_entries.Tie as tie
+
+add-first : tie.Need-add-first
+add-first c = search needs
+
+kind-at-requires : tie.Need-kind-at-requires
+kind-at-requires c κs = record {
+  what = c .before .before .pre .what;
+  stop = c .before .before .pre .stop;
+  is =
+      c .before .before .pre .is;
+}
+
+is-list-requires : tie.Need-is-list-requires
+is-list-requires c κs = search needs
+
+hold-entry-requires : tie.Need-hold-entry-requires
+hold-entry-requires c κs = record {
+  what = c .before .before .before .before .before .before .pre .what;
+  stop =
+      c .before .before .before .before .before .before .pre .stop;
+  is =
+      c .before .before .before .before .before .before .pre .is;
+  roomy = record {
+    room = omega (arith, c .before .before .before .before .before .before .pre .roomy .room);
+    bounded =
+        c .before .before .before .before .before .before .pre .roomy .bounded;
+  };
+}
+
+enum-known-h : tie.Need-enum-known-h
+enum-known-h c = search needs
+
+enum-told : tie.Need-enum-told
+enum-told c = search needs
+
+same-length : tie.Need-same-length
+same-length c = holds-wrong heldValue
+    (c .before .before .before .before .before .before .before .before .before .before .before .args .run .now) _ _ _
+    (c .before .before .before .before .hold-entry .ensures _ _
+    (c .before .before .before .before .before .before .before .before .before .before .before .pre .is))
+    (c .enum-told .given .1) .size
+
+returns : tie.Need-returns
+returns c = λ t e p. one-left heldValue
+    (entryOf (c .before .before .before .before .before .before .before .before .before .before .before .args .k)) t
+    ((kind-told isList (c .before .before .before .before .before .before .before .before .kind-at .ensures)
+    (c .before .before .before .before .before .before .before .is-list .ensures)
+    (not-true (c .before .before .before .before .before .before .before .is-list .result)
+    (c .before .before .before .before .before .before .if1 .taken))) t e p)
+    (holds-wrong heldValue
+    (c .before .before .before .before .before .before .before .before .before .before .before .args .run .now) _ _ _ (c .before .before .before .before .hold-entry .ensures t e p) (c .enum-told .given .1))
+
+mul-run : tie.Need-mul-run
+mul-run c = search needs
+
+slice-write-run : tie.Need-slice-write-run
+slice-write-run c = let d = holds-past heldValue
+    (c .before .before .before .before .before .before .before .before .before .before .before .before .args .run .now)
+    _ _ _ (c .before .before .before .before .before .hold-entry .ensures _ _
+    (c .before .before .before .before .before .before .before .before .before .before .before .before .pre .is)) (c .before .h .given .1) in omega (arith, d .extends .size, c .before .before .before .before .before .before .before .before .before .before .before .before .pre .roomy .room)
+
+same-length-2 : tie.Need-same-length-2
+same-length-2 c = one-laid heldValue
+    (entryOf (c .before .before .before .before .before .before .before .before .before .before .before .before .args .k)) _ ((kind-told isList (c .before .before .before .before .before .before .before .before .before .kind-at .ensures) (c .before .before .before .before .before .before .before .before .is-list .ensures) (not-true (c .before .before .before .before .before .before .before .before .is-list .result) (c .before .before .before .before .before .before .before .if1 .taken))) _ _ (c .before .before .before .before .before .before .before .before .before .before .before .before .pre .is)) (omega (arith, c .before .before .before .before .before .before .before .before .before .before .before .before .pre .roomy .room)) (holds-past heldValue (c .before .before .before .before .before .before .before .before .before .before .before .before .args .run .now) _ _ _ (c .before .before .before .before .before .hold-entry .ensures _ _ (c .before .before .before .before .before .before .before .before .before .before .before .before .pre .is)) (c .before .h .given .1)) .extends .size
+
+returns-2 : tie.Need-returns-2
+returns-2 c = λ t e p. one-laid heldValue
+    (entryOf (c .before .before .before .before .before .before .before .before .before .before .before .before .args .k)) t ((kind-told isList (c .before .before .before .before .before .before .before .before .before .kind-at .ensures) (c .before .before .before .before .before .before .before .before .is-list .ensures) (not-true (c .before .before .before .before .before .before .before .before .is-list .result) (c .before .before .before .before .before .before .before .if1 .taken))) t e p) (omega (arith, c .before .before .before .before .before .before .before .before .before .before .before .before .pre .roomy .room)) (holds-past heldValue (c .before .before .before .before .before .before .before .before .before .before .before .before .args .run .now) _ _ _ (c .before .before .before .before .before .hold-entry .ensures t e p) (c .before .h .given .1))
+
+hold-list-requires : tie.Need-hold-list-requires
+hold-list-requires c κs = list-holdable (c .before .before .before .before .before .before .pre)
+    ((kind-told isList (c .before .before .before .kind-at .ensures) (c .before .before .is-list .ensures)
+    (not-false (c .before .before .is-list .result) (c .before .if1 .left))) _ _
+    (c .before .before .before .before .before .before .pre .is))
+
+enum-known-c : tie.Need-enum-known-c
+enum-known-c c = search needs
+
+enum-told-2 : tie.Need-enum-told-2
+enum-told-2 c = search needs
+
+same-length-3 : tie.Need-same-length-3
+same-length-3 c = gathers-wrong heldValue
+    (c .before .before .before .before .before .before .before .before .before .before .before .args .run .now) _ _ _
+    (c .before .before .before .before .hold-list .ensures _ _ (list-stands
+    (c .before .before .before .before .before .before .before .before .before .before .before .pre .is)
+    ((kind-told isList (c .before .before .before .before .before .before .before .before .kind-at .ensures) (c .before .before .before .before .before .before .before .is-list .ensures) (not-false (c .before .before .before .before .before .before .before .is-list .result) (c .before .before .before .before .before .before .if1 .left))) _ _ (c .before .before .before .before .before .before .before .before .before .before .before .pre .is)))) (c .enum-told2 .given .1) .size
+
+returns-3 : tie.Need-returns-3
+returns-3 c = λ t e p. list-left heldValue
+    (entryOf (c .before .before .before .before .before .before .before .before .before .before .before .args .k))
+    (is-list t ((kind-told isList
+    (c .before .before .before .before .before .before .before .before .kind-at .ensures)
+    (c .before .before .before .before .before .before .before .is-list .ensures)
+    (not-false (c .before .before .before .before .before .before .before .is-list .result)
+    (c .before .before .before .before .before .before .if1 .left))) t e p) .is)
+    (gathers-wrong heldValue
+    (c .before .before .before .before .before .before .before .before .before .before .before .args .run .now) _ _ _ (c .before .before .before .before .hold-list .ensures _ _ (list-stands p ((kind-told isList (c .before .before .before .before .before .before .before .before .kind-at .ensures) (c .before .before .before .before .before .before .before .is-list .ensures) (not-false (c .before .before .before .before .before .before .before .is-list .result) (c .before .before .before .before .before .before .if1 .left))) t e p))) (c .enum-told2 .given .1))
+
+same-length-4 : tie.Need-same-length-4
+same-length-4 c = (gathers-several heldValue
+    (c .before .before .before .before .before .before .before .before .before .before .before .before .before .args .run .now) _ _ _ (c .before .before .before .before .before .before .hold-list .ensures _ _ (list-stands (c .before .before .before .before .before .before .before .before .before .before .before .before .before .pre .is) ((kind-told isList (c .before .before .before .before .before .before .before .before .before .before .kind-at .ensures) (c .before .before .before .before .before .before .before .before .before .is-list .ensures) (not-false (c .before .before .before .before .before .before .before .before .before .is-list .result) (c .before .before .before .before .before .before .before .before .if1 .left))) _ _ (c .before .before .before .before .before .before .before .before .before .before .before .before .before .pre .is)))) (c .before .before .c .given .1)) .extends .size
+
+returns-4 : tie.Need-returns-4
+returns-4 c = λ t e p. list-none heldValue
+    (entryOf (c .before .before .before .before .before .before .before .before .before .before .before .before .before .args .k)) (is-list t ((kind-told isList (c .before .before .before .before .before .before .before .before .before .before .kind-at .ensures) (c .before .before .before .before .before .before .before .before .before .is-list .ensures) (not-false (c .before .before .before .before .before .before .before .before .before .is-list .result) (c .before .before .before .before .before .before .before .before .if1 .left))) t e p) .is) (c .if2 .taken) (gathers-several heldValue (c .before .before .before .before .before .before .before .before .before .before .before .before .before .args .run .now) _ _ _ (c .before .before .before .before .before .before .hold-list .ensures _ _ (list-stands p ((kind-told isList (c .before .before .before .before .before .before .before .before .before .before .kind-at .ensures) (c .before .before .before .before .before .before .before .before .before .is-list .ensures) (not-false (c .before .before .before .before .before .before .before .before .before .is-list .result) (c .before .before .before .before .before .before .before .before .if1 .left))) t e p))) (c .before .before .c .given .1))
+
+cast-run : tie.Need-cast-run
+cast-run c =
+    let g = (gathers-several heldValue
+    (c .before .before .before .before .before .before .before .before .before .before .before .before .before .args .run .now) _ _ _ (c .before .before .before .before .before .before .hold-list .ensures _ _ (list-stands (c .before .before .before .before .before .before .before .before .before .before .before .before .before .pre .is) ((kind-told isList (c .before .before .before .before .before .before .before .before .before .before .kind-at .ensures) (c .before .before .before .before .before .before .before .before .before .is-list .ensures) (not-false (c .before .before .before .before .before .before .before .before .before .is-list .result) (c .before .before .before .before .before .before .before .before .if1 .left))) _ _ (c .before .before .before .before .before .before .before .before .before .before .before .before .before .pre .is)))) (c .before .before .c .given .1)) in
+    let few = gathered-few value-some
+    (omega (arith, c .before .before .before .before .before .before .before .before .before .before .before .before .before .pre .roomy .room)) g in
+    let k : c .before .before .c .given .0 .1 .0 ≤ 16384 = omega (
+      arith,
+      few,
+      c .before .before .before .before .before .before .before .before .before .before .before .before .before .pre .roomy .bounded,
+    ) in search needs
+
+mul-run-2 : tie.Need-mul-run-2
+mul-run-2 c = search needs
+
+slice-write-run-2 : tie.Need-slice-write-run-2
+slice-write-run-2 c = let g =
+    (gathers-several heldValue
+    (c .before .before .before .before .before .before .before .before .before .before .before .before .before .args .run .now) _ _ _ (c .before .before .before .before .before .before .hold-list .ensures _ _ (list-stands (c .before .before .before .before .before .before .before .before .before .before .before .before .before .pre .is) ((kind-told isList (c .before .before .before .before .before .before .before .before .before .before .kind-at .ensures) (c .before .before .before .before .before .before .before .before .before .is-list .ensures) (not-false (c .before .before .before .before .before .before .before .before .before .is-list .result) (c .before .before .before .before .before .before .before .before .if1 .left))) _ _ (c .before .before .before .before .before .before .before .before .before .before .before .before .before .pre .is)))) (c .before .before .c .given .1)) in omega (arith, g .extends .size, c .before .before .before .before .before .before .before .before .before .before .before .before .before .pre .roomy .room)
+
+same-length-5 : tie.Need-same-length-5
+same-length-5 c = list-laid heldValue
+    (entryOf (c .before .before .before .before .before .before .before .before .before .before .before .before .before .args .k)) (is-list _ ((kind-told isList (c .before .before .before .before .before .before .before .before .before .before .kind-at .ensures) (c .before .before .before .before .before .before .before .before .before .is-list .ensures) (not-false (c .before .before .before .before .before .before .before .before .before .is-list .result) (c .before .before .before .before .before .before .before .before .if1 .left))) _ _ (c .before .before .before .before .before .before .before .before .before .before .before .before .before .pre .is)) .is) (c .if2 .left) (omega (arith, c .before .before .before .before .before .before .before .before .before .before .before .before .before .pre .roomy .room)) (gathers-several heldValue (c .before .before .before .before .before .before .before .before .before .before .before .before .before .args .run .now) _ _ _ (c .before .before .before .before .before .before .hold-list .ensures _ _ (list-stands (c .before .before .before .before .before .before .before .before .before .before .before .before .before .pre .is) ((kind-told isList (c .before .before .before .before .before .before .before .before .before .before .kind-at .ensures) (c .before .before .before .before .before .before .before .before .before .is-list .ensures) (not-false (c .before .before .before .before .before .before .before .before .before .is-list .result) (c .before .before .before .before .before .before .before .before .if1 .left))) _ _ (c .before .before .before .before .before .before .before .before .before .before .before .before .before .pre .is)))) (c .before .before .c .given .1)) .extends .size
+
+returns-5 : tie.Need-returns-5
+returns-5 c = λ t e p. list-laid heldValue
+    (entryOf (c .before .before .before .before .before .before .before .before .before .before .before .before .before .args .k)) (is-list t ((kind-told isList (c .before .before .before .before .before .before .before .before .before .before .kind-at .ensures) (c .before .before .before .before .before .before .before .before .before .is-list .ensures) (not-false (c .before .before .before .before .before .before .before .before .before .is-list .result) (c .before .before .before .before .before .before .before .before .if1 .left))) t e p) .is) (c .if2 .left) (omega (arith, c .before .before .before .before .before .before .before .before .before .before .before .before .before .pre .roomy .room)) (gathers-several heldValue (c .before .before .before .before .before .before .before .before .before .before .before .before .before .args .run .now) _ _ _ (c .before .before .before .before .before .before .hold-list .ensures _ _ (list-stands p ((kind-told isList (c .before .before .before .before .before .before .before .before .before .before .kind-at .ensures) (c .before .before .before .before .before .before .before .before .before .is-list .ensures) (not-false (c .before .before .before .before .before .before .before .before .before .is-list .result) (c .before .before .before .before .before .before .before .before .if1 .left))) t e p))) (c .before .before .c .given .1))
+
+pub hold-entries-spec : {M : Type 1} → statement M
+hold-entries-spec =
+    tie.close
+    (tie.spec
+    add-first
+    kind-at-requires
+    is-list-requires
+    hold-entry-requires
+    enum-known-h
+    enum-told
+    same-length
+    returns
+    mul-run
+    slice-write-run
+    same-length-2
+    returns-2
+    hold-list-requires
+    enum-known-c
+    enum-told-2
+    same-length-3
+    returns-3
+    same-length-4
+    returns-4
+    cast-run
+    mul-run-2
+    slice-write-run-2
+    same-length-5
+    returns-5)

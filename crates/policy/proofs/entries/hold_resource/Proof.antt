@@ -1,0 +1,108 @@
+-- The text is held and tested where it lies.
+use mathlib.Core.Path.{sym, _∙_}
+use mathlib.Core.Bool.{true}
+use native.Mathlib.Omega.{arith}
+use borrow.Author.Tests.{not-true, not-false}
+use Rattle.policy.specs.Forms.{isResource, symbolsOf}
+use Rattle.policy.specs.Members.{then, charactersOf}
+use Rattle.policy.specs.PolicyLayout.{resourceOf}
+use Rattle.policy.specs.Held.{heldText}
+use Rattle.policy.proofs.Laws.Formed.{holds-past, holds-wrong, past-first, past-within, part-told, formed-no}
+use Rattle.policy.proofs.Laws.Formed.{formed-yes, resource-formed, resource-left}
+use borrow.Author.Needs.{needs}
+use Rattle.policy.proofs.entries.hold_resource.Statement.{statement}
+use Rattle.policy.proofs.entries.hold_resource.Tie as tie
+
+hold-symbols-requires : tie.Need-hold-symbols-requires
+hold-symbols-requires c κs = search needs
+
+enum-known-h : tie.Need-enum-known-h
+enum-known-h c = search needs
+
+enum-told : tie.Need-enum-told
+enum-told c = search needs
+
+same-length : tie.Need-same-length
+same-length c = search needs
+
+returns : tie.Need-returns
+unfolding resourceOf
+returns c = λ t e p. resource-left (charactersOf t) (holds-wrong heldText
+    (c .before .before .before .before .before .before .before .before .args .run .now) _
+    (c .before .before .before .before .before .before .before .before .args .at)
+    (then (charactersOf t) (symbolsOf true)) (c .before .before .before .before .hold-symbols .ensures t e p)
+    (c .enum-told .given .1))
+
+add-first : tie.Need-add-first
+add-first c = search needs
+
+mul-is-resource : tie.Need-mul-is-resource
+mul-is-resource c = search needs
+
+sub-is-resource : tie.Need-sub-is-resource
+sub-is-resource c = past-first
+    (omega (arith, c .before .before .before .before .before .before .before .before .before .pre .roomy .room))
+    (holds-past heldText (c .before .before .before .before .before .before .before .before .before .args .run .now) _ (c .before .before .before .before .before .before .before .before .before .args .at) _ (c .before .before .before .before .before .hold-symbols .ensures _ _ (c .before .before .before .before .before .before .before .before .before .pre .is)) (c .before .h .given .1))
+
+part-is-resource-start : tie.Need-part-is-resource-start
+part-is-resource-start c = past-first
+    (omega (arith, c .before .before .before .before .before .before .before .before .before .before .pre .roomy .room)) (holds-past heldText (c .before .before .before .before .before .before .before .before .before .before .args .run .now) _ (c .before .before .before .before .before .before .before .before .before .before .args .at) _ (c .before .before .before .before .before .before .hold-symbols .ensures _ _ (c .before .before .before .before .before .before .before .before .before .before .pre .is)) (c .before .before .h .given .1))
+
+part-is-resource-end : tie.Need-part-is-resource-end
+part-is-resource-end c = past-within
+    (omega (arith, c .before .before .before .before .before .before .before .before .before .before .pre .roomy .room)) (holds-past heldText (c .before .before .before .before .before .before .before .before .before .before .args .run .now) _ (c .before .before .before .before .before .before .before .before .before .before .args .at) _ (c .before .before .before .before .before .before .hold-symbols .ensures _ _ (c .before .before .before .before .before .before .before .before .before .before .pre .is)) (c .before .before .h .given .1))
+
+is-resource-requires : tie.Need-is-resource-requires
+is-resource-requires c κs = search needs
+
+same-length-2 : tie.Need-same-length-2
+same-length-2 c = search needs
+
+returns-2 : tie.Need-returns-2
+unfolding resourceOf
+returns-2 c =
+    λ t e p. let d = (holds-past heldText
+    (c .before .before .before .before .before .before .before .before .before .before .before .before .before .args .run .now) _ (c .before .before .before .before .before .before .before .before .before .before .before .before .before .args .at) (then (charactersOf t) (symbolsOf true)) (c .before .before .before .before .before .before .before .before .before .hold-symbols .ensures t e p) (c .before .before .before .before .before .h .given .1)) in
+    let n = part-told (omega
+    (arith, c .before .before .before .before .before .before .before .before .before .before .before .before .before .pre .roomy .room)) d isResource (c .before .is-resource .ensures) (not-true (c .before .is-resource .result) (c .if1 .taken)) in
+    record {
+      size = d .extends .size;
+      said = resource-formed (charactersOf t) ∙ formed-no isResource (λ cs. cs)
+          (d .said) n;
+    }
+
+same-length-3 : tie.Need-same-length-3
+same-length-3 c = search needs
+
+returns-3 : tie.Need-returns-3
+unfolding resourceOf
+returns-3 c =
+    λ t e p. let d = (holds-past heldText
+    (c .before .before .before .before .before .before .before .before .before .before .before .before .before .args .run .now) _ (c .before .before .before .before .before .before .before .before .before .before .before .before .before .args .at) (then (charactersOf t) (symbolsOf true)) (c .before .before .before .before .before .before .before .before .before .hold-symbols .ensures t e p) (c .before .before .before .before .before .h .given .1)) in
+    let n = part-told (omega
+    (arith, c .before .before .before .before .before .before .before .before .before .before .before .before .before .pre .roomy .room)) d isResource (c .before .is-resource .ensures) (not-false (c .before .is-resource .result) (c .if1 .left)) in
+    record {
+      thing = d .thing;
+      said = resource-formed (charactersOf t) ∙ formed-yes isResource (λ cs. cs) (d .said) n;
+      extends = d .extends;
+    }
+
+pub hold-resource-spec : {M : Type 1} → statement M
+hold-resource-spec =
+    tie.close
+    (tie.spec
+    hold-symbols-requires
+    enum-known-h
+    enum-told
+    same-length
+    returns
+    add-first
+    mul-is-resource
+    sub-is-resource
+    part-is-resource-start
+    part-is-resource-end
+    is-resource-requires
+    same-length-2
+    returns-2
+    same-length-3
+    returns-3)

@@ -1,0 +1,90 @@
+-- An object's rows, of which there has to be one.
+use mathlib.Core.Path.{refl}
+use native.Mathlib.Omega.{arith}
+use borrow.Author.Tests.{not-true, not-false}
+use Rattle.policy.specs.Held.{heldRow}
+use Rattle.policy.specs.Spoken.{operatorIs}
+use Rattle.policy.specs.PolicyLayout.{rowsOf}
+use Rattle.policy.specs.Holding.{isObject}
+use Rattle.policy.proofs.Laws.Formed.{gathers-several, gathers-wrong}
+use Rattle.policy.proofs.Laws.Several.{kind-told, is-object, object-holdable, object-stands}
+use Rattle.policy.proofs.Laws.Groups.{rows-inside, object-left, object-none, object-some}
+use borrow.Author.Needs.{needs}
+use Rattle.policy.proofs.rows.hold_group.Statement.{statement}
+use Rattle.policy.proofs.rows.hold_group.Tie as tie
+
+kind-at-requires : tie.Need-kind-at-requires
+kind-at-requires c κs = record {
+  what = c .before .before .pre .what;
+  stop = c .before .before .pre .stop;
+  is =
+      c .before .before .pre .is;
+}
+
+is-object-requires : tie.Need-is-object-requires
+is-object-requires c κs = search needs
+
+returns : tie.Need-returns
+returns c = λ t e p. record {
+  size = refl;
+  said = rows-inside (operatorIs
+      (c .before .before .before .before .before .args .o)) .other t ((kind-told isObject
+      (c .before .before .kind-at .ensures) (c .before .is-object .ensures)
+      (not-true (c .before .is-object .result) (c .if1 .taken))) t e p);
+}
+
+hold-rows-requires : tie.Need-hold-rows-requires
+hold-rows-requires c κs = object-holdable _ (omega arith) (c .before .before .before .before .before .before .pre)
+    ((kind-told isObject (c .before .before .before .kind-at .ensures) (c .before .before .is-object .ensures)
+    (not-false (c .before .before .is-object .result) (c .before .if1 .left))) _ _
+    (c .before .before .before .before .before .before .pre .is))
+
+enum-known-c : tie.Need-enum-known-c
+enum-known-c c = search needs
+
+enum-told : tie.Need-enum-told
+enum-told c = search needs
+
+same-length : tie.Need-same-length
+same-length c = (gathers-wrong heldRow
+    (c .before .before .before .before .before .before .before .before .before .before .before .args .run .now) _ _ _
+    (c .before .before .before .before .hold-rows .ensures _ _ (object-stands
+    (c .before .before .before .before .before .before .before .before .before .before .before .pre .is)
+    ((kind-told isObject (c .before .before .before .before .before .before .before .before .kind-at .ensures) (c .before .before .before .before .before .before .before .is-object .ensures) (not-false (c .before .before .before .before .before .before .before .is-object .result) (c .before .before .before .before .before .before .if1 .left))) _ _ (c .before .before .before .before .before .before .before .before .before .before .before .pre .is)))) (c .enum-told .given .1)) .size
+
+returns-2 : tie.Need-returns-2
+returns-2 c = λ t e p. object-left
+    (rowsOf (operatorIs (c .before .before .before .before .before .before .before .before .before .before .before .args .o))) _ (rows-inside (operatorIs (c .before .before .before .before .before .before .before .before .before .before .before .args .o))) (is-object t ((kind-told isObject (c .before .before .before .before .before .before .before .before .kind-at .ensures) (c .before .before .before .before .before .before .before .is-object .ensures) (not-false (c .before .before .before .before .before .before .before .is-object .result) (c .before .before .before .before .before .before .if1 .left))) t e p) .is) (gathers-wrong heldRow (c .before .before .before .before .before .before .before .before .before .before .before .args .run .now) _ _ _ (c .before .before .before .before .hold-rows .ensures _ _ (object-stands p ((kind-told isObject (c .before .before .before .before .before .before .before .before .kind-at .ensures) (c .before .before .before .before .before .before .before .is-object .ensures) (not-false (c .before .before .before .before .before .before .before .is-object .result) (c .before .before .before .before .before .before .if1 .left))) t e p))) (c .enum-told .given .1))
+
+same-length-2 : tie.Need-same-length-2
+same-length-2 c = (gathers-several heldRow
+    (c .before .before .before .before .before .before .before .before .before .before .before .before .before .args .run .now) _ _ _ (c .before .before .before .before .before .before .hold-rows .ensures _ _ (object-stands (c .before .before .before .before .before .before .before .before .before .before .before .before .before .pre .is) ((kind-told isObject (c .before .before .before .before .before .before .before .before .before .before .kind-at .ensures) (c .before .before .before .before .before .before .before .before .before .is-object .ensures) (not-false (c .before .before .before .before .before .before .before .before .before .is-object .result) (c .before .before .before .before .before .before .before .before .if1 .left))) _ _ (c .before .before .before .before .before .before .before .before .before .before .before .before .before .pre .is)))) (c .before .before .c .given .1)) .extends .size
+
+returns-3 : tie.Need-returns-3
+returns-3 c = λ t e p. object-none
+    (rowsOf (operatorIs (c .before .before .before .before .before .before .before .before .before .before .before .before .before .args .o))) _ (rows-inside (operatorIs (c .before .before .before .before .before .before .before .before .before .before .before .before .before .args .o))) (is-object t ((kind-told isObject (c .before .before .before .before .before .before .before .before .before .before .kind-at .ensures) (c .before .before .before .before .before .before .before .before .before .is-object .ensures) (not-false (c .before .before .before .before .before .before .before .before .before .is-object .result) (c .before .before .before .before .before .before .before .before .if1 .left))) t e p) .is) (gathers-several heldRow (c .before .before .before .before .before .before .before .before .before .before .before .before .before .args .run .now) _ _ _ (c .before .before .before .before .before .before .hold-rows .ensures _ _ (object-stands p ((kind-told isObject (c .before .before .before .before .before .before .before .before .before .before .kind-at .ensures) (c .before .before .before .before .before .before .before .before .before .is-object .ensures) (not-false (c .before .before .before .before .before .before .before .before .before .is-object .result) (c .before .before .before .before .before .before .before .before .if1 .left))) t e p))) (c .before .before .c .given .1)) (c .if2 .taken)
+
+same-length-3 : tie.Need-same-length-3
+same-length-3 c = (gathers-several heldRow
+    (c .before .before .before .before .before .before .before .before .before .before .before .before .before .args .run .now) _ _ _ (c .before .before .before .before .before .before .hold-rows .ensures _ _ (object-stands (c .before .before .before .before .before .before .before .before .before .before .before .before .before .pre .is) ((kind-told isObject (c .before .before .before .before .before .before .before .before .before .before .kind-at .ensures) (c .before .before .before .before .before .before .before .before .before .is-object .ensures) (not-false (c .before .before .before .before .before .before .before .before .before .is-object .result) (c .before .before .before .before .before .before .before .before .if1 .left))) _ _ (c .before .before .before .before .before .before .before .before .before .before .before .before .before .pre .is)))) (c .before .before .c .given .1)) .extends .size
+
+returns-4 : tie.Need-returns-4
+returns-4 c = λ t e p. object-some
+    (rowsOf (operatorIs (c .before .before .before .before .before .before .before .before .before .before .before .before .before .args .o))) _ (rows-inside (operatorIs (c .before .before .before .before .before .before .before .before .before .before .before .before .before .args .o))) (is-object t ((kind-told isObject (c .before .before .before .before .before .before .before .before .before .before .kind-at .ensures) (c .before .before .before .before .before .before .before .before .before .is-object .ensures) (not-false (c .before .before .before .before .before .before .before .before .before .is-object .result) (c .before .before .before .before .before .before .before .before .if1 .left))) t e p) .is) (gathers-several heldRow (c .before .before .before .before .before .before .before .before .before .before .before .before .before .args .run .now) _ _ _ (c .before .before .before .before .before .before .hold-rows .ensures _ _ (object-stands p ((kind-told isObject (c .before .before .before .before .before .before .before .before .before .before .kind-at .ensures) (c .before .before .before .before .before .before .before .before .before .is-object .ensures) (not-false (c .before .before .before .before .before .before .before .before .before .is-object .result) (c .before .before .before .before .before .before .before .before .if1 .left))) t e p))) (c .before .before .c .given .1)) (c .if2 .left)
+
+pub hold-group-spec : {M : Type 1} → statement M
+hold-group-spec =
+    tie.close
+    (tie.spec
+    kind-at-requires
+    is-object-requires
+    returns
+    hold-rows-requires
+    enum-known-c
+    enum-told
+    same-length
+    returns-2
+    same-length-2
+    returns-3
+    same-length-3
+    returns-4)

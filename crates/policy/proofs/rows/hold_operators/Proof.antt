@@ -1,0 +1,211 @@
+-- Each turn holds the rows of one operator behind those before it; one seen before, or a wrong one, ends the walk.
+use mathlib.Core.Path.{_≡_, refl, sym, ap, _∙_}
+use Prim.Native.Nat.{ℕ, _≤_, _<_}
+use native.Mathlib.Omega.{arith}
+use lib.ListN.{getD}
+use Rattle.policy.specs.Held.{heldRow, operatorNumber}
+use Rattle.policy.specs.Spoken.{operatorIs}
+use Rattle.policy.proofs.Laws.Formed.{gathers-several, gathers-wrong}
+use Rattle.policy.proofs.Laws.Walking.{leftOf}
+use Rattle.policy.proofs.Laws.Groups.{number-small}
+use Rattle.policy.proofs.Laws.Operators.{Operators, operators-start, operators-end, group-unknown, known}
+use Rattle.policy.proofs.Laws.Operators.{group-left, here, here-holdable, here-standing, here-continuing}
+use Rattle.policy.proofs.Laws.Operators.{here-less, operators-wrong, operators-twice, operators-size}
+use Rattle.policy.proofs.Laws.Operators.{operators-few, operators-more}
+use borrow.Author.Needs.{needs}
+use Rattle.policy.proofs.rows.hold_operators.Statement.{statement}
+use Rattle.policy.proofs.rows.hold_operators.Tie as tie
+
+abbrev Inv-loop : tie.InvT-loop
+Inv-loop s v run₀ at seen₀ m₀ p₀ n₀ run seen m p n = Operators s v run₀ at run seen m p n
+
+abbrev μ-loop : tie.MeasureT-loop
+μ-loop s v run₀ at seen₀ m₀ p₀ n₀ run seen m p n = leftOf s m
+
+first-member-requires : tie.Need-first-member-requires Inv-loop μ-loop
+first-member-requires c κs = record {
+  what = c .before .before .pre .what;
+  stop = c .before .before .pre .stop;
+  is =
+      c .before .before .pre .is;
+}
+
+loop-holds : tie.Need-loop-holds Inv-loop μ-loop
+loop-holds c = operators-start (c .before .before .before .pre) _ (c .first-member .ensures _ _
+    (c .before .before .before .pre .is))
+
+enum-known-m : tie.Need-enum-known-m Inv-loop μ-loop
+enum-known-m c = search needs
+
+enum-told : tie.Need-enum-told Inv-loop μ-loop
+enum-told c = search needs
+
+same-length : tie.Need-same-length Inv-loop μ-loop
+same-length c = (c .before .before .loop .inv) .going .sofar .extends .size
+
+returns : tie.Need-returns Inv-loop μ-loop
+returns c = operators-end (c .before .before .loop .inv) _ (c .enum-told .given .1)
+
+sub-operator-named : tie.Need-sub-operator-named Inv-loop μ-loop
+sub-operator-named c = omega (
+  arith,
+  (here (c .before .before .before .loop .inv) _ _ _
+      ((c .before .m .given) .1)) .order,
+)
+
+part-operator-named-start : tie.Need-part-operator-named-start Inv-loop μ-loop
+part-operator-named-start c = omega (
+  arith,
+  (here (c .before .before .before .loop .inv) _ _ _
+      ((c .before .m .given) .1)) .order,
+)
+
+part-operator-named-end : tie.Need-part-operator-named-end Inv-loop μ-loop
+part-operator-named-end c = omega (
+  arith,
+  (here (c .before .before .before .loop .inv) _ _ _
+      ((c .before .m .given) .1)) .inside,
+)
+
+operator-named-requires : tie.Need-operator-named-requires Inv-loop μ-loop
+operator-named-requires c κs = search needs
+
+enum-known-w : tie.Need-enum-known-w Inv-loop μ-loop
+enum-known-w c = search needs
+
+enum-told-2 : tie.Need-enum-told-2 Inv-loop μ-loop
+enum-told-2 c = search needs
+
+same-length-2 : tie.Need-same-length-2 Inv-loop μ-loop
+same-length-2 c = (c .before .before .before .before .before .before .before .loop .inv) .going .sofar .extends .size
+
+returns-2 : tie.Need-returns-2 Inv-loop μ-loop
+returns-2 c = operators-wrong (c .before .before .before .before .before .before .before .loop .inv) _ _ _
+    ((c .before .before .before .before .before .m .given) .1) (record {
+      size = refl;
+      said = group-unknown _ _
+          (c .before .before .operator-named .ensures) (c .enum-told2 .given .1);
+    })
+
+operator-number-requires : tie.Need-operator-number-requires Inv-loop μ-loop
+operator-number-requires c κs = search needs
+
+cast-k : tie.Need-cast-k Inv-loop μ-loop
+cast-k c = let small = (number-small (operatorIs (c .before .before .w .given .0 .0))) in let is =
+    c .operator-number .ensures in search needs
+
+mul-if1 : tie.Need-mul-if1 Inv-loop μ-loop
+mul-if1 c = let small = (number-small (operatorIs (c .before .before .w .given .0 .0))) in let is =
+    c .operator-number .ensures in search needs
+
+array-read-if1 : tie.Need-array-read-if1 Inv-loop μ-loop
+array-read-if1 c = omega (
+  arith,
+  (number-small (operatorIs (c .before .before .w .given .0 .0))),
+  c .operator-number .ensures,
+  (c .before .before .before .before .before .before .before .before .before .loop .inv) .seen .size,
+)
+
+same-length-3 : tie.Need-same-length-3 Inv-loop μ-loop
+same-length-3 c = (c .before .before .before .before .before .before .before .before .before .before .loop .inv) .going .sofar .extends .size
+
+returns-3 : tie.Need-returns-3 Inv-loop μ-loop
+returns-3 c = operators-twice
+    (c .before .before .before .before .before .before .before .before .before .before .loop .inv) _ _ _
+    ((c .before .before .before .before .before .before .before .before .m .given) .1)
+    (operatorIs (c .before .before .before .w .given .0 .0)) (known _
+    ((here (c .before .before .before .before .before .before .before .before .before .before .loop .inv) _
+    _ _ ((c .before .before .before .before .before .before .before .before .m .given) .1)) .head)
+    (c .before .before .before .before .before .operator-named .ensures)
+    (c .before .before .before .w .given .1)) (λ z. c .if1 .taken
+    (ap (λ (j : ℕ). getD (c .before .before .before .before .before .before .before .before .before .before .loop .seen) j 0) (c .before .operator-number .ensures) ∙ z))
+
+mul-seen : tie.Need-mul-seen Inv-loop μ-loop
+mul-seen c = let small = (number-small (operatorIs (c .before .before .before .w .given .0 .0))) in let is =
+    c .before .operator-number .ensures in search needs
+
+array-write-seen : tie.Need-array-write-seen Inv-loop μ-loop
+array-write-seen c = omega (
+  arith,
+  (number-small (operatorIs (c .before .before .before .w .given .0 .0))),
+  c .before .operator-number .ensures,
+  (c .before .before .before .before .before .before .before .before .before .before .loop .inv) .seen .size,
+)
+
+hold-group-requires : tie.Need-hold-group-requires Inv-loop μ-loop
+hold-group-requires c κs = here-holdable
+    (c .before .before .before .before .before .before .before .before .before .before .before .loop .inv) _ _ _
+    ((c .before .before .before .before .before .before .before .before .before .m .given) .1)
+
+enum-known-c : tie.Need-enum-known-c Inv-loop μ-loop
+enum-known-c c = search needs
+
+enum-told-3 : tie.Need-enum-told-3 Inv-loop μ-loop
+enum-told-3 c = search needs
+
+same-length-4 : tie.Need-same-length-4 Inv-loop μ-loop
+same-length-4 c = (gathers-wrong heldRow _ _ _ _ (c .before .before .before .before .hold-group .ensures _ _
+    ((here (c .before .before .before .before .before .before .before .before .before .before .before .before .before .before .before .before .loop .inv) _ _ _ ((c .before .before .before .before .before .before .before .before .before .before .before .before .before .before .m .given) .1)) .stands)) (c .enum-told3 .given .1)) .size ∙ (c .before .before .before .before .before .before .before .before .before .before .before .before .before .before .before .before .loop .inv) .going .sofar .extends .size
+
+returns-4 : tie.Need-returns-4 Inv-loop μ-loop
+returns-4 c = operators-wrong
+    (c .before .before .before .before .before .before .before .before .before .before .before .before .before .before .before .before .loop .inv) _ _ _ ((c .before .before .before .before .before .before .before .before .before .before .before .before .before .before .m .given) .1) (group-left _ _ (known _ ((here (c .before .before .before .before .before .before .before .before .before .before .before .before .before .before .before .before .loop .inv) _ _ _ ((c .before .before .before .before .before .before .before .before .before .before .before .before .before .before .m .given) .1)) .head) (c .before .before .before .before .before .before .before .before .before .before .before .operator-named .ensures) (c .before .before .before .before .before .before .before .before .before .w .given .1)) (gathers-wrong heldRow _ _ _ _ (c .before .before .before .before .hold-group .ensures _ _ ((here (c .before .before .before .before .before .before .before .before .before .before .before .before .before .before .before .before .loop .inv) _ _ _ ((c .before .before .before .before .before .before .before .before .before .before .before .before .before .before .m .given) .1)) .stands)) (c .enum-told3 .given .1)))
+
+add-n : tie.Need-add-n Inv-loop μ-loop
+add-n c = let few = operators-few
+    (c .before .before .before .before .before .before .before .before .before .before .before .before .before .before .before .before .before .loop .inv) _ _ _ ((c .before .before .before .before .before .before .before .before .before .before .before .before .before .before .before .m .given) .1) (known _ ((here (c .before .before .before .before .before .before .before .before .before .before .before .before .before .before .before .before .before .loop .inv) _ _ _ ((c .before .before .before .before .before .before .before .before .before .before .before .before .before .before .before .m .given) .1)) .head) (c .before .before .before .before .before .before .before .before .before .before .before .before .operator-named .ensures) (c .before .before .before .before .before .before .before .before .before .before .w .given .1)) (gathers-several heldRow _ _ _ _ (c .before .before .before .before .before .hold-group .ensures _ _ ((here (c .before .before .before .before .before .before .before .before .before .before .before .before .before .before .before .before .before .loop .inv) _ _ _ ((c .before .before .before .before .before .before .before .before .before .before .before .before .before .before .before .m .given) .1)) .stands)) (c .before .c .given .1)) in search needs
+
+past-value-requires : tie.Need-past-value-requires Inv-loop μ-loop
+past-value-requires c κs = here-standing
+    (c .before .before .before .before .before .before .before .before .before .before .before .before .before .before .before .before .before .loop .inv) _ _ _ ((c .before .before .before .before .before .before .before .before .before .before .before .before .before .before .before .m .given) .1)
+
+next-member-requires : tie.Need-next-member-requires Inv-loop μ-loop
+next-member-requires c κs = here-continuing
+    (c .before .before .before .before .before .before .before .before .before .before .before .before .before .before .before .before .before .before .loop .inv) _ _ _ ((c .before .before .before .before .before .before .before .before .before .before .before .before .before .before .before .before .m .given) .1) (c .past-value .ensures _ _ ((here (c .before .before .before .before .before .before .before .before .before .before .before .before .before .before .before .before .before .before .loop .inv) _ _ _ ((c .before .before .before .before .before .before .before .before .before .before .before .before .before .before .before .before .m .given) .1)) .stands))
+
+loop-less : tie.Need-loop-less Inv-loop μ-loop
+loop-less c = here-less
+    (c .before .before .before .before .before .before .before .before .before .before .before .before .before .before .before .before .before .before .before .loop .inv) _ _ _ ((c .before .before .before .before .before .before .before .before .before .before .before .before .before .before .before .before .before .m .given) .1) _ _ (c .before .past-value .ensures _ _ ((here (c .before .before .before .before .before .before .before .before .before .before .before .before .before .before .before .before .before .before .before .loop .inv) _ _ _ ((c .before .before .before .before .before .before .before .before .before .before .before .before .before .before .before .before .before .m .given) .1)) .stands)) (c .next-member .ensures)
+
+loop-again : tie.Need-loop-again Inv-loop μ-loop
+loop-again c = operators-more
+    (c .before .before .before .before .before .before .before .before .before .before .before .before .before .before .before .before .before .before .before .loop .inv) _ _ _ ((c .before .before .before .before .before .before .before .before .before .before .before .before .before .before .before .before .before .m .given) .1) (known _ ((here (c .before .before .before .before .before .before .before .before .before .before .before .before .before .before .before .before .before .before .before .loop .inv) _ _ _ ((c .before .before .before .before .before .before .before .before .before .before .before .before .before .before .before .before .before .m .given) .1)) .head) (c .before .before .before .before .before .before .before .before .before .before .before .before .before .before .operator-named .ensures) (c .before .before .before .before .before .before .before .before .before .before .before .before .w .given .1)) (gathers-several heldRow _ _ _ _ (c .before .before .before .before .before .before .before .hold-group .ensures _ _ ((here (c .before .before .before .before .before .before .before .before .before .before .before .before .before .before .before .before .before .before .before .loop .inv) _ _ _ ((c .before .before .before .before .before .before .before .before .before .before .before .before .before .before .before .before .before .m .given) .1)) .stands)) (c .before .before .before .c .given .1)) _ (c .before .before .before .before .before .before .before .before .before .before .operator-number .ensures) (c .before .before .before .before .before .before .before .before .before .if1 .left) _ _ (c .before .past-value .ensures _ _ ((here (c .before .before .before .before .before .before .before .before .before .before .before .before .before .before .before .before .before .before .before .loop .inv) _ _ _ ((c .before .before .before .before .before .before .before .before .before .before .before .before .before .before .before .before .before .m .given) .1)) .stands)) (c .next-member .ensures)
+
+pub hold-operators-spec : {M : Type 1} → statement M
+hold-operators-spec =
+    tie.close
+    (tie.spec
+    Inv-loop
+    μ-loop
+    first-member-requires
+    loop-holds
+    enum-known-m
+    enum-told
+    same-length
+    returns
+    sub-operator-named
+    part-operator-named-start
+    part-operator-named-end
+    operator-named-requires
+    enum-known-w
+    enum-told-2
+    same-length-2
+    returns-2
+    operator-number-requires
+    cast-k
+    mul-if1
+    array-read-if1
+    same-length-3
+    returns-3
+    mul-seen
+    array-write-seen
+    hold-group-requires
+    enum-known-c
+    enum-told-3
+    same-length-4
+    returns-4
+    add-n
+    past-value-requires
+    next-member-requires
+    loop-less
+    loop-again)

@@ -1,0 +1,128 @@
+-- The key and the values are held one behind the other, the operator's number is written last.
+use mathlib.Core.Path.{_∙_}
+use native.Mathlib.Omega.{arith}
+use Rattle.policy.specs.Held.{heldText, heldList, heldValue}
+use Rattle.policy.specs.Spoken.{operatorIs}
+use Rattle.policy.proofs.Laws.Formed.{holds-past, holds-wrong}
+use Rattle.policy.proofs.Laws.Rows.{row-left, key-place, row-entries-left, row-laid}
+use borrow.Author.Needs.{needs}
+use Rattle.policy.proofs.rows.hold_row.Statement.{statement}
+use Rattle.policy.proofs.rows.hold_row.Tie as tie
+
+add-first : tie.Need-add-first
+add-first c = search needs
+
+sub-hold-key : tie.Need-sub-hold-key
+sub-hold-key c = omega (arith, c .before .before .pre .order)
+
+part-hold-key-start : tie.Need-part-hold-key-start
+part-hold-key-start c = omega (arith, c .before .before .pre .order)
+
+part-hold-key-end : tie.Need-part-hold-key-end
+part-hold-key-end c = omega (arith, c .before .before .pre .inside)
+
+hold-key-requires : tie.Need-hold-key-requires
+hold-key-requires c κs = record {
+  room = omega (arith, c .before .before .before .before .pre .roomy .room);
+  bounded =
+      c .before .before .before .before .pre .roomy .bounded;
+}
+
+enum-known-h : tie.Need-enum-known-h
+enum-known-h c = search needs
+
+enum-told : tie.Need-enum-told
+enum-told c = search needs
+
+same-length : tie.Need-same-length
+same-length c = holds-wrong heldText
+    (c .before .before .before .before .before .before .before .before .before .args .run .now) _ _ _
+    (c .before .before .before .before .hold-key .ensures) (c .enum-told .given .1) .size
+
+returns : tie.Need-returns
+returns c = λ t e p. row-left
+    (operatorIs (c .before .before .before .before .before .before .before .before .before .args .o)) _ t
+    (holds-wrong heldText
+    (c .before .before .before .before .before .before .before .before .before .args .run .now) _ _ _
+    (c .before .before .before .before .hold-key .ensures) (c .enum-told .given .1))
+
+hold-entries-requires : tie.Need-hold-entries-requires
+hold-entries-requires c κs =
+    let k = (holds-past heldText
+    (c .before .before .before .before .before .before .before .before .before .before .before .args .run .now) _ _
+    _ (c .before .before .before .before .before .before .hold-key .ensures) (c .before .before .h .given .1))
+    in record {
+      what = c .before .before .before .before .before .before .before .before .before .before .before .pre .what;
+      stop = c .before .before .before .before .before .before .before .before .before .before .before .pre .stop;
+      is = c .before .before .before .before .before .before .before .before .before .before .before .pre .is;
+      roomy = record {
+        room = omega (
+          arith,
+          key-place
+              (operatorIs (c .before .before .before .before .before .before .before .before .before .before .before .args .o)) _ (c .before .before .before .before .before .before .before .before .before .before .before .pre .what) (c .before .before .before .before .before .before .before .before .before .before .before .args .at) k,
+          k .extends .size,
+          c .before .before .before .before .before .before .before .before .before .before .before .pre .roomy .room,
+        );
+        bounded = omega (
+          arith,
+          k .extends .size,
+          c .before .before .before .before .before .before .before .before .before .before .before .pre .roomy .bounded,
+        );
+      };
+    }
+
+enum-known-g : tie.Need-enum-known-g
+enum-known-g c = search needs
+
+enum-told-2 : tie.Need-enum-told-2
+enum-told-2 c = search needs
+
+same-length-2 : tie.Need-same-length-2
+same-length-2 c = holds-wrong (heldList heldValue) _ _ _ _ (c .before .before .before .before .hold-entries .ensures _
+    _ (c .before .before .before .before .before .before .before .before .before .before .before .before .before .before .before .before .pre .is)) (c .enum-told2 .given .1) .size ∙ (holds-past heldText (c .before .before .before .before .before .before .before .before .before .before .before .before .before .before .before .before .args .run .now) _ _ _ (c .before .before .before .before .before .before .before .before .before .before .before .hold-key .ensures) (c .before .before .before .before .before .before .before .h .given .1)) .extends .size
+
+returns-2 : tie.Need-returns-2
+returns-2 c = λ t e p. row-entries-left
+    (operatorIs (c .before .before .before .before .before .before .before .before .before .before .before .before .before .before .before .before .args .o)) _ t (c .before .before .before .before .before .before .before .before .before .before .before .before .before .before .before .before .args .at) (holds-past heldText (c .before .before .before .before .before .before .before .before .before .before .before .before .before .before .before .before .args .run .now) _ _ _ (c .before .before .before .before .before .before .before .before .before .before .before .hold-key .ensures) (c .before .before .before .before .before .before .before .h .given .1)) (holds-wrong (heldList heldValue) _ _ _ _ (c .before .before .before .before .hold-entries .ensures t e p) (c .enum-told2 .given .1))
+
+operator-number-requires : tie.Need-operator-number-requires
+operator-number-requires c κs = search needs
+
+mul-run : tie.Need-mul-run
+mul-run c = search needs
+
+slice-write-run : tie.Need-slice-write-run
+slice-write-run c = let k =
+    (holds-past heldText (c .before .before .before .before .before .before .before .before .before .before .before .before .before .before .before .before .before .before .args .run .now) _ _ _ (c .before .before .before .before .before .before .before .before .before .before .before .before .before .hold-key .ensures) (c .before .before .before .before .before .before .before .before .before .h .given .1)) in let d = (holds-past (heldList heldValue) _ _ _ _ (c .before .before .before .before .before .before .hold-entries .ensures _ _ (c .before .before .before .before .before .before .before .before .before .before .before .before .before .before .before .before .before .before .pre .is)) (c .before .before .g .given .1)) in omega (arith, k .extends .size, d .extends .size, c .before .before .before .before .before .before .before .before .before .before .before .before .before .before .before .before .before .before .pre .roomy .room)
+
+same-length-3 : tie.Need-same-length-3
+same-length-3 c = row-laid
+    (operatorIs (c .before .before .before .before .before .before .before .before .before .before .before .before .before .before .before .before .before .before .args .o)) _ _ (c .before .before .before .before .before .before .before .before .before .before .before .before .before .before .before .before .before .before .args .at) (holds-past heldText (c .before .before .before .before .before .before .before .before .before .before .before .before .before .before .before .before .before .before .args .run .now) _ _ _ (c .before .before .before .before .before .before .before .before .before .before .before .before .before .hold-key .ensures) (c .before .before .before .before .before .before .before .before .before .h .given .1)) _ (c .operator-number .ensures) (omega (arith, c .before .before .before .before .before .before .before .before .before .before .before .before .before .before .before .before .before .before .pre .roomy .room)) (holds-past (heldList heldValue) _ _ _ _ (c .before .before .before .before .before .before .hold-entries .ensures _ _ (c .before .before .before .before .before .before .before .before .before .before .before .before .before .before .before .before .before .before .pre .is)) (c .before .before .g .given .1)) .extends .size
+
+returns-3 : tie.Need-returns-3
+returns-3 c = λ t e p. row-laid
+    (operatorIs (c .before .before .before .before .before .before .before .before .before .before .before .before .before .before .before .before .before .before .args .o)) _ t (c .before .before .before .before .before .before .before .before .before .before .before .before .before .before .before .before .before .before .args .at) (holds-past heldText (c .before .before .before .before .before .before .before .before .before .before .before .before .before .before .before .before .before .before .args .run .now) _ _ _ (c .before .before .before .before .before .before .before .before .before .before .before .before .before .hold-key .ensures) (c .before .before .before .before .before .before .before .before .before .h .given .1)) _ (c .operator-number .ensures) (omega (arith, c .before .before .before .before .before .before .before .before .before .before .before .before .before .before .before .before .before .before .pre .roomy .room)) (holds-past (heldList heldValue) _ _ _ _ (c .before .before .before .before .before .before .hold-entries .ensures t e p) (c .before .before .g .given .1))
+
+pub hold-row-spec : {M : Type 1} → statement M
+hold-row-spec =
+    tie.close
+    (tie.spec
+    add-first
+    sub-hold-key
+    part-hold-key-start
+    part-hold-key-end
+    hold-key-requires
+    enum-known-h
+    enum-told
+    same-length
+    returns
+    hold-entries-requires
+    enum-known-g
+    enum-told-2
+    same-length-2
+    returns-2
+    operator-number-requires
+    mul-run
+    slice-write-run
+    same-length-3
+    returns-3)

@@ -1,0 +1,120 @@
+-- Each turn holds one row behind those before it; a key that one of them has, or a wrong row, ends the walk.
+use mathlib.Core.Path.{sym, _∙_}
+use Rattle.policy.specs.Held.{heldRow}
+use Rattle.policy.specs.Spoken.{operatorIs}
+use Rattle.policy.proofs.Laws.Formed.{holds-past, holds-wrong}
+use Rattle.policy.proofs.Laws.Walking.{leftOf}
+use Rattle.policy.proofs.Laws.Rows.{Apart, apart-start, apart-end, here, here-member, here-standing}
+use Rattle.policy.proofs.Laws.Rows.{here-continuing, here-less, apart-wrong, rows-lie, row-lies, row-lying}
+use Rattle.policy.proofs.Laws.Rows.{apart-size, apart-twice, apart-few, apart-more}
+use borrow.Author.Needs.{needs}
+use Rattle.policy.proofs.rows.hold_rows.Statement.{statement}
+use Rattle.policy.proofs.rows.hold_rows.Tie as tie
+
+abbrev Inv-loop : tie.InvT-loop
+Inv-loop s v run₀ at o m₀ p₀ n₀ run m p n = Apart (operatorIs o) s v run₀ at run m p n
+
+abbrev μ-loop : tie.MeasureT-loop
+μ-loop s v run₀ at o m₀ p₀ n₀ run m p n = leftOf s m
+
+first-member-requires : tie.Need-first-member-requires Inv-loop μ-loop
+first-member-requires c κs = record {
+  what = c .before .before .pre .what;
+  stop = c .before .before .pre .stop;
+  is =
+      c .before .before .pre .is;
+}
+
+loop-holds : tie.Need-loop-holds Inv-loop μ-loop
+loop-holds c = apart-start (operatorIs (c .before .before .before .args .o)) (c .before .before .before .pre) _
+    (c .first-member .ensures _ _ (c .before .before .before .pre .is))
+
+enum-known-m : tie.Need-enum-known-m Inv-loop μ-loop
+enum-known-m c = search needs
+
+enum-told : tie.Need-enum-told Inv-loop μ-loop
+enum-told c = search needs
+
+same-length : tie.Need-same-length Inv-loop μ-loop
+same-length c = (c .before .before .loop .inv) .going .sofar .extends .size
+
+returns : tie.Need-returns Inv-loop μ-loop
+returns c = apart-end (operatorIs (c .before .before .before .before .before .before .args .o))
+    (c .before .before .loop .inv) _ (c .enum-told .given .1)
+
+hold-row-requires : tie.Need-hold-row-requires Inv-loop μ-loop
+hold-row-requires c κs = here-member
+    (operatorIs (c .before .before .before .before .before .before .before .before .args .o))
+    (c .before .before .before .before .loop .inv) _ _ _ ((c .before .before .m .given) .1)
+
+enum-known-h : tie.Need-enum-known-h Inv-loop μ-loop
+enum-known-h c = search needs
+
+enum-told-2 : tie.Need-enum-told-2 Inv-loop μ-loop
+enum-told-2 c = search needs
+
+same-length-2 : tie.Need-same-length-2 Inv-loop μ-loop
+same-length-2 c = (holds-wrong heldRow _ _ _ _ (c .before .before .before .before .hold-row .ensures _ _
+    (here (operatorIs (c .before .before .before .before .before .before .before .before .before .before .before .before .before .args .o)) (c .before .before .before .before .before .before .before .before .before .loop .inv) _ _ _ ((c .before .before .before .before .before .before .before .m .given) .1) .stands)) (c .enum-told2 .given .1)) .size ∙ (c .before .before .before .before .before .before .before .before .before .loop .inv) .going .sofar .extends .size
+
+returns-2 : tie.Need-returns-2 Inv-loop μ-loop
+returns-2 c = apart-wrong
+    (operatorIs (c .before .before .before .before .before .before .before .before .before .before .before .before .before .args .o)) (c .before .before .before .before .before .before .before .before .before .loop .inv) _ _ _ ((c .before .before .before .before .before .before .before .m .given) .1) (holds-wrong heldRow _ _ _ _ (c .before .before .before .before .hold-row .ensures _ _ (here (operatorIs (c .before .before .before .before .before .before .before .before .before .before .before .before .before .args .o)) (c .before .before .before .before .before .before .before .before .before .loop .inv) _ _ _ ((c .before .before .before .before .before .before .before .m .given) .1) .stands)) (c .enum-told2 .given .1))
+
+has-key-requires : tie.Need-has-key-requires Inv-loop μ-loop
+has-key-requires c κs = row-lying
+    (operatorIs (c .before .before .before .before .before .before .before .before .before .before .before .before .before .before .before .args .o)) (c .before .before .before .before .before .before .before .before .before .before .before .loop .inv) _ _ _ ((c .before .before .before .before .before .before .before .before .before .m .given) .1) (holds-past heldRow _ _ _ _ (c .before .before .before .before .before .before .hold-row .ensures _ _ (here (operatorIs (c .before .before .before .before .before .before .before .before .before .before .before .before .before .before .before .args .o)) (c .before .before .before .before .before .before .before .before .before .before .before .loop .inv) _ _ _ ((c .before .before .before .before .before .before .before .before .before .m .given) .1) .stands)) (c .before .before .h .given .1))
+
+same-length-3 : tie.Need-same-length-3 Inv-loop μ-loop
+same-length-3 c = apart-size
+    (operatorIs (c .before .before .before .before .before .before .before .before .before .before .before .before .before .before .before .before .before .args .o)) (c .before .before .before .before .before .before .before .before .before .before .before .before .before .loop .inv) _ _ _ ((c .before .before .before .before .before .before .before .before .before .before .before .m .given) .1) (holds-past heldRow _ _ _ _ (c .before .before .before .before .before .before .before .before .hold-row .ensures _ _ (here (operatorIs (c .before .before .before .before .before .before .before .before .before .before .before .before .before .before .before .before .before .args .o)) (c .before .before .before .before .before .before .before .before .before .before .before .before .before .loop .inv) _ _ _ ((c .before .before .before .before .before .before .before .before .before .before .before .m .given) .1) .stands)) (c .before .before .before .before .h .given .1))
+
+returns-3 : tie.Need-returns-3 Inv-loop μ-loop
+returns-3 c = apart-twice
+    (operatorIs (c .before .before .before .before .before .before .before .before .before .before .before .before .before .before .before .before .before .args .o)) (c .before .before .before .before .before .before .before .before .before .before .before .before .before .loop .inv) _ _ _ ((c .before .before .before .before .before .before .before .before .before .before .before .m .given) .1) (holds-past heldRow _ _ _ _ (c .before .before .before .before .before .before .before .before .hold-row .ensures _ _ (here (operatorIs (c .before .before .before .before .before .before .before .before .before .before .before .before .before .before .before .before .before .args .o)) (c .before .before .before .before .before .before .before .before .before .before .before .before .before .loop .inv) _ _ _ ((c .before .before .before .before .before .before .before .before .before .before .before .m .given) .1) .stands)) (c .before .before .before .before .h .given .1)) (sym (c .before .has-key .ensures _ _ ((c .before .before .before .before .before .before .before .before .before .before .before .before .before .loop .inv) .count) (rows-lie (operatorIs (c .before .before .before .before .before .before .before .before .before .before .before .before .before .before .before .before .before .args .o)) (c .before .before .before .before .before .before .before .before .before .before .before .before .before .loop .inv) _ _ _ ((c .before .before .before .before .before .before .before .before .before .before .before .m .given) .1) (holds-past heldRow _ _ _ _ (c .before .before .before .before .before .before .before .before .hold-row .ensures _ _ (here (operatorIs (c .before .before .before .before .before .before .before .before .before .before .before .before .before .before .before .before .before .args .o)) (c .before .before .before .before .before .before .before .before .before .before .before .before .before .loop .inv) _ _ _ ((c .before .before .before .before .before .before .before .before .before .before .before .m .given) .1) .stands)) (c .before .before .before .before .h .given .1))) (row-lies (operatorIs (c .before .before .before .before .before .before .before .before .before .before .before .before .before .before .before .before .before .args .o)) (c .before .before .before .before .before .before .before .before .before .before .before .before .before .loop .inv) _ _ _ ((c .before .before .before .before .before .before .before .before .before .before .before .m .given) .1) (holds-past heldRow _ _ _ _ (c .before .before .before .before .before .before .before .before .hold-row .ensures _ _ (here (operatorIs (c .before .before .before .before .before .before .before .before .before .before .before .before .before .before .before .before .before .args .o)) (c .before .before .before .before .before .before .before .before .before .before .before .before .before .loop .inv) _ _ _ ((c .before .before .before .before .before .before .before .before .before .before .before .m .given) .1) .stands)) (c .before .before .before .before .h .given .1)))) ∙ c .if1 .taken)
+
+add-n : tie.Need-add-n Inv-loop μ-loop
+add-n c = let few = apart-few
+    (operatorIs (c .before .before .before .before .before .before .before .before .before .before .before .before .before .before .before .before .before .args .o)) (c .before .before .before .before .before .before .before .before .before .before .before .before .before .loop .inv) _ _ _ ((c .before .before .before .before .before .before .before .before .before .before .before .m .given) .1) (holds-past heldRow _ _ _ _ (c .before .before .before .before .before .before .before .before .hold-row .ensures _ _ (here (operatorIs (c .before .before .before .before .before .before .before .before .before .before .before .before .before .before .before .before .before .args .o)) (c .before .before .before .before .before .before .before .before .before .before .before .before .before .loop .inv) _ _ _ ((c .before .before .before .before .before .before .before .before .before .before .before .m .given) .1) .stands)) (c .before .before .before .before .h .given .1)) in search needs
+
+past-value-requires : tie.Need-past-value-requires Inv-loop μ-loop
+past-value-requires c κs = here-standing
+    (operatorIs (c .before .before .before .before .before .before .before .before .before .before .before .before .before .before .before .before .before .args .o)) (c .before .before .before .before .before .before .before .before .before .before .before .before .before .loop .inv) _ _ _ ((c .before .before .before .before .before .before .before .before .before .before .before .m .given) .1)
+
+next-member-requires : tie.Need-next-member-requires Inv-loop μ-loop
+next-member-requires c κs = here-continuing
+    (operatorIs (c .before .before .before .before .before .before .before .before .before .before .before .before .before .before .before .before .before .before .args .o)) (c .before .before .before .before .before .before .before .before .before .before .before .before .before .before .loop .inv) _ _ _ ((c .before .before .before .before .before .before .before .before .before .before .before .before .m .given) .1) (c .past-value .ensures _ _ (here (operatorIs (c .before .before .before .before .before .before .before .before .before .before .before .before .before .before .before .before .before .before .args .o)) (c .before .before .before .before .before .before .before .before .before .before .before .before .before .before .loop .inv) _ _ _ ((c .before .before .before .before .before .before .before .before .before .before .before .before .m .given) .1) .stands))
+
+loop-less : tie.Need-loop-less Inv-loop μ-loop
+loop-less c = here-less
+    (operatorIs (c .before .before .before .before .before .before .before .before .before .before .before .before .before .before .before .before .before .before .before .args .o)) (c .before .before .before .before .before .before .before .before .before .before .before .before .before .before .before .loop .inv) _ _ _ ((c .before .before .before .before .before .before .before .before .before .before .before .before .before .m .given) .1) _ _ (c .before .past-value .ensures _ _ (here (operatorIs (c .before .before .before .before .before .before .before .before .before .before .before .before .before .before .before .before .before .before .before .args .o)) (c .before .before .before .before .before .before .before .before .before .before .before .before .before .before .before .loop .inv) _ _ _ ((c .before .before .before .before .before .before .before .before .before .before .before .before .before .m .given) .1) .stands)) (c .next-member .ensures)
+
+loop-again : tie.Need-loop-again Inv-loop μ-loop
+loop-again c = apart-more
+    (operatorIs (c .before .before .before .before .before .before .before .before .before .before .before .before .before .before .before .before .before .before .before .args .o)) (c .before .before .before .before .before .before .before .before .before .before .before .before .before .before .before .loop .inv) _ _ _ ((c .before .before .before .before .before .before .before .before .before .before .before .before .before .m .given) .1) (holds-past heldRow _ _ _ _ (c .before .before .before .before .before .before .before .before .before .before .hold-row .ensures _ _ (here (operatorIs (c .before .before .before .before .before .before .before .before .before .before .before .before .before .before .before .before .before .before .before .args .o)) (c .before .before .before .before .before .before .before .before .before .before .before .before .before .before .before .loop .inv) _ _ _ ((c .before .before .before .before .before .before .before .before .before .before .before .before .before .m .given) .1) .stands)) (c .before .before .before .before .before .before .h .given .1)) (sym (c .before .before .before .has-key .ensures _ _ ((c .before .before .before .before .before .before .before .before .before .before .before .before .before .before .before .loop .inv) .count) (rows-lie (operatorIs (c .before .before .before .before .before .before .before .before .before .before .before .before .before .before .before .before .before .before .before .args .o)) (c .before .before .before .before .before .before .before .before .before .before .before .before .before .before .before .loop .inv) _ _ _ ((c .before .before .before .before .before .before .before .before .before .before .before .before .before .m .given) .1) (holds-past heldRow _ _ _ _ (c .before .before .before .before .before .before .before .before .before .before .hold-row .ensures _ _ (here (operatorIs (c .before .before .before .before .before .before .before .before .before .before .before .before .before .before .before .before .before .before .before .args .o)) (c .before .before .before .before .before .before .before .before .before .before .before .before .before .before .before .loop .inv) _ _ _ ((c .before .before .before .before .before .before .before .before .before .before .before .before .before .m .given) .1) .stands)) (c .before .before .before .before .before .before .h .given .1))) (row-lies (operatorIs (c .before .before .before .before .before .before .before .before .before .before .before .before .before .before .before .before .before .before .before .args .o)) (c .before .before .before .before .before .before .before .before .before .before .before .before .before .before .before .loop .inv) _ _ _ ((c .before .before .before .before .before .before .before .before .before .before .before .before .before .m .given) .1) (holds-past heldRow _ _ _ _ (c .before .before .before .before .before .before .before .before .before .before .hold-row .ensures _ _ (here (operatorIs (c .before .before .before .before .before .before .before .before .before .before .before .before .before .before .before .before .before .before .before .args .o)) (c .before .before .before .before .before .before .before .before .before .before .before .before .before .before .before .loop .inv) _ _ _ ((c .before .before .before .before .before .before .before .before .before .before .before .before .before .m .given) .1) .stands)) (c .before .before .before .before .before .before .h .given .1)))) ∙ c .before .before .if1 .left) _ _ (c .before .past-value .ensures _ _ (here (operatorIs (c .before .before .before .before .before .before .before .before .before .before .before .before .before .before .before .before .before .before .before .args .o)) (c .before .before .before .before .before .before .before .before .before .before .before .before .before .before .before .loop .inv) _ _ _ ((c .before .before .before .before .before .before .before .before .before .before .before .before .before .m .given) .1) .stands)) (c .next-member .ensures)
+
+pub hold-rows-spec : {M : Type 1} → statement M
+hold-rows-spec =
+    tie.close
+    (tie.spec
+    Inv-loop
+    μ-loop
+    first-member-requires
+    loop-holds
+    enum-known-m
+    enum-told
+    same-length
+    returns
+    hold-row-requires
+    enum-known-h
+    enum-told-2
+    same-length-2
+    returns-2
+    has-key-requires
+    same-length-3
+    returns-3
+    add-n
+    past-value-requires
+    next-member-requires
+    loop-less
+    loop-again)
