@@ -24,8 +24,14 @@ pub mod Collecting
 pub mod Rows
 pub mod Groups
 pub mod Operators
+pub mod Reading
 pub mod Fits
 pub mod FitsPolicy
 pub mod Runs
 pub mod RunsWalk
 pub mod RunsStatement
+pub mod StatementsParts
+pub mod StatementsRead
+pub mod Statements
+pub mod StatementsApart
+pub mod StatementsPolicy

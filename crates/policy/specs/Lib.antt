@@ -11,6 +11,8 @@ pub mod RecordLayout
 pub mod Held
 pub mod Room
 pub mod Lying
+pub mod Reading
 pub mod Told
 pub mod Holding
+pub mod Statements
 pub mod Spoken

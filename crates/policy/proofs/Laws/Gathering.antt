@@ -45,7 +45,7 @@ module _ {A : Type 0} (h : A → List ℕ) (f : Json → Reading A)
       pub sofar : Sofar h (each f whole) run₀ at run p n things (each f left) (costs left)
       pub count : n ≡ length things
 
-  pub gathering-start :
+  unfoldable pub gathering-start :
       {s : List ℕ} {v at : ℕ} {run : List ℕ} (p : HoldableList s v run at) (m : Element)
       → Comes s v (p .what) (p .stop) m → Gathering s v run at run m at 0
   gathering-start {s} {v} {at} {run} p m c =
@@ -120,7 +120,7 @@ module _ {A : Type 0} (h : A → List ℕ) (f : Json → Reading A)
       pub next-standing : Standing s i
       next-standing = record { what = next .head; stop = next .stop; is = next .stands }
 
-      follows : {e : ℕ} → e ≡ next .stop → Rest s (next .tail) e (g .stop)
+      pub follows : {e : ℕ} → e ≡ next .stop → Rest s (next .tail) e (g .stop)
       follows k = subst (λ (j : ℕ). Rest s (next .tail) j (g .stop)) (sym k) (next .follows)
 
       -- behind the element another one, or the end
@@ -133,7 +133,7 @@ module _ {A : Type 0} (h : A → List ℕ) (f : Json → Reading A)
       pub next-few : n + 1 ≤ 16384
       next-few = omega (arith, next-cost, g .sofar .few, g .sofar .bounded, cost-some (next .head))
 
-      pub gathering-more :
+      unfoldable pub gathering-more :
           {run′ : List ℕ} {p′ : ℕ} → Laid h run run′ p (f (next .head)) p′ → (m′ : Element) (e : ℕ) → e ≡ next .stop
           → ((ts : Values) (y : ℕ) → Rest s ts e y → Comes s e ts y m′)
           → Gathering s v run₀ at run′ m′ p′ (n + 1)

@@ -96,7 +96,7 @@ object-holdable {s} {v} {run} {at} j few p h =
 -- ---- one or more
 
 module _ {A : Type 0} (h : A → List ℕ) (f : Json → Reading A) where
-  one-is : (t : Json) → isList (kindOf t) ≡ false → oneOrMore f t ≡ cons (f t) (read [])
+  pub one-is : (t : Json) → isList (kindOf t) ≡ false → oneOrMore f t ≡ cons (f t) (read [])
   unfolding oneOrMore
   one-is null e = refl
   one-is (bool b) e = refl

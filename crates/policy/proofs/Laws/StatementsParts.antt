@@ -1,0 +1,199 @@
+-- What a statement has besides its effect: members that may be absent, entries as texts, all held in turn.
+--   placed-absent, placed-there   a member's place tells whether it is there
+--   absent-laid, there-holds      what is held of a member that may be absent
+--   texts-laid, texts-left        Action and Resource entries are texts
+--   parts-holds ..                one part behind the other
+use mathlib.Core.Path.{_≡_, refl, sym, ap, _∙_, subst}
+use mathlib.Core.List.{List, [], _∷_, _++_, map}
+use Prim.Native.Nat.{ℕ, _+_, _≤_, _<_}
+use native.Mathlib.Omega.{arith}
+use lib.ListN.{length, set, length-map}
+use Rattle.text.specs.Json.{Json, null, bool, number, string, list, object, Values, no-more, also}
+use Rattle.text.specs.Contents.{Stands}
+use Rattle.policy.specs.Policy.{Value, text}
+use Rattle.policy.specs.Forms.{Reading, wrong, read}
+use Rattle.policy.specs.Members.{then, Slot, none, one, many, optional, cons, each, some, oneOrMore}
+use Rattle.policy.specs.Slots.{Placed, absent, stands}
+use Rattle.policy.specs.PolicyLayout.{asText, actionOf, resourceOf, sidOf, conditionOf}
+use Rattle.policy.specs.Held.{heldText, heldEach, heldList, heldValue, heldRow}
+use Rattle.policy.specs.Room.{cost, Holdable}
+use Rattle.policy.specs.Holding.{Extends, Laid, Left, Holds}
+use Rattle.policy.specs.Statements.{partsOf, heldParts, costOf, HoldableSlot}
+use Rattle.policy.specs.declared.holding.Held.{Held}
+use Rattle.policy.specs.declared.holding.Held.the-variants.{Past, Wrong}
+use Rattle.policy.proofs.Laws.Extends.{extends-none, extends-front, extends-then}
+use Rattle.policy.proofs.Laws.Formed.{then-wrong, then-read, left-then}
+use Rattle.policy.proofs.Laws.Fits.{wrong-read, then-inv, one-or-more-fits, sid-fits}
+
+-- ---- a member that may be absent
+
+pub placed-absent : {s : List ℕ} {v : ℕ} {x : Slot} → Placed s v x → v ≡ 0 → x ≡ none
+placed-absent absent e = refl
+placed-absent (stands h q) e = absurd (omega arith)
+
+pub record There (s : List ℕ) (v : ℕ) (x : Slot) : Type 0 where
+  pub what : Json
+  pub stop : ℕ
+  pub is : x ≡ one what
+  pub stands : Stands s what v stop
+
+pub placed-there : {s : List ℕ} {v : ℕ} {x : Slot} → Placed s v x → (v ≡ 0 → ⊥) → There s v x
+placed-there absent n = absurd (n refl)
+placed-there (stands {p} {e} {t} h q) n = record { what = t; stop = e; is = refl; stands = q }
+
+pub there-holdable : {s : List ℕ} {v : ℕ} {run : List ℕ} {at : ℕ} → HoldableSlot s v run at → (v ≡ 0 → ⊥)
+    → Holdable s v run at 0
+there-holdable h n =
+    let t = placed-there (h .is) n in
+    record {
+      what = t .what;
+      stop = t .stop;
+      is = t .stands;
+      roomy = record { room = omega (arith, h .roomy .room, ap costOf (t .is)); bounded = h .roomy .bounded };
+    }
+
+module _ {A : Type 0} (h : A → List ℕ) (d : A) (f : Json → Reading A) where
+  pub absent-laid :
+      {s : List ℕ} {v : ℕ} {run : List ℕ} {at : ℕ} → h d ≡ 0 ∷ [] → at < length run → v ≡ 0 → (x : Slot)
+      → Placed s v x → Laid h run (set run at 0) at (optional d f x) (at + 1)
+  absent-laid {s} {v} {run} {at} e low z x p =
+      record {
+        thing = d;
+        said = ap (optional d f) (placed-absent p z);
+        extends = subst (λ (l : List ℕ). Extends run (set run at 0) at l (at + 1)) (sym e)
+            (extends-front 0 low (extends-none run (at + 1)));
+      }
+
+  pub there-holds :
+      {s : List ℕ} {v : ℕ} (run run′ : List ℕ) (at : ℕ) (r : Held) → (v ≡ 0 → ⊥)
+      → ((t : Json) (e : ℕ) → Stands s t v e → Holds h run run′ at (f t) r)
+      → (x : Slot) → Placed s v x → Holds h run run′ at (optional d f x) r
+  there-holds run run′ at r n g x p =
+      let t = placed-there p n in
+      subst (λ (y : Slot). Holds h run run′ at (optional d f y) r) (sym (t .is)) (g (t .what) (t .stop) (t .stands))
+
+pub no-rows : heldList heldRow [] ≡ 0 ∷ []
+unfolding heldEach
+no-rows = refl
+
+-- ---- entries as texts
+
+abbrev asTexts : Reading (List (List ℕ)) → Reading (List Value)
+asTexts x = then x (λ l. read (map text l))
+
+cons-texts : (x : Reading (List ℕ)) (y : Reading (List (List ℕ))) → cons (asText x) (asTexts y) ≡ asTexts (cons x y)
+cons-texts wrong y = refl
+cons-texts (read x) wrong = refl
+cons-texts (read x) (read y) = refl
+
+each-held : (l : List (List ℕ)) → heldEach heldValue (map text l) ≡ heldEach heldText l
+unfolding heldEach
+each-held [] = refl
+each-held (x ∷ l) = ap (λ (m : List ℕ). heldText x ++ m) (each-held l)
+
+list-held : (l : List (List ℕ)) → heldList heldValue (map text l) ≡ heldList heldText l
+list-held l =
+    ap (λ (n : ℕ). n ∷ heldEach heldValue (map text l)) (length-map l text)
+    ∙ ap (λ (m : List ℕ). length l ∷ m) (each-held l)
+
+texts-wrong : (x : Reading (List (List ℕ))) → asTexts x ≡ wrong → x ≡ wrong
+texts-wrong wrong e = refl
+texts-wrong (read l) e = wrong-read (sym e)
+
+module _ (g : Json → Reading (List ℕ)) where
+  each-texts : (ts : Values) → each (λ t. asText (g t)) ts ≡ asTexts (each g ts)
+  unfolding each
+  each-texts no-more = refl
+  each-texts (also t ts) =
+      ap (λ (y : Reading (List Value)). cons (asText (g t)) y) (each-texts ts) ∙ cons-texts (g t) (each g ts)
+
+  some-texts : (ts : Values) → some (λ t. asText (g t)) ts ≡ asTexts (some g ts)
+  unfolding some
+  some-texts no-more = refl
+  some-texts (also t ts) = each-texts (also t ts)
+
+  texts : (t : Json) → oneOrMore (λ t. asText (g t)) t ≡ asTexts (oneOrMore g t)
+  unfolding oneOrMore
+  texts null = cons-texts (g null) (read [])
+  texts (bool b) = cons-texts (g (bool b)) (read [])
+  texts (number w) = cons-texts (g (number w)) (read [])
+  texts (string w) = cons-texts (g (string w)) (read [])
+  texts (list ts) = some-texts ts
+  texts (object ms) = cons-texts (g (object ms)) (read [])
+
+  pub texts-left : {run run′ : List ℕ} (t : Json) → Left run run′ (oneOrMore (λ t. asText (g t)) t)
+      → Left run run′ (oneOrMore g t)
+  texts-left t l = record { size = l .size; said = texts-wrong (oneOrMore g t) (sym (texts t) ∙ l .said) }
+
+  pub texts-laid :
+      {run run′ : List ℕ} {at p : ℕ} (t : Json)
+      → Laid (heldList heldValue) run run′ at (oneOrMore (λ t. asText (g t)) t) p
+      → Laid (heldList heldText) run run′ at (oneOrMore g t) p
+  texts-laid {run} {run′} {at} {p} t d =
+      let i = then-inv (oneOrMore g t) (λ l. read (map text l)) (sym (texts t) ∙ d .said) in
+      let e : map text (i .thing) ≡ d .thing = let z = i .next in cc in
+      record {
+        thing = i .thing;
+        said = i .said;
+        extends = subst (λ (l : List ℕ). Extends run run′ at l p)
+            (ap (heldList heldValue) (sym e) ∙ list-held (i .thing)) (d .extends);
+      }
+
+-- ---- where the parts end
+
+optional-sid : (x : Slot) (cs : List ℕ) → optional [] sidOf x ≡ read cs → length cs ≤ costOf x
+optional-sid none cs e = let z : [] ≡ cs = cc in omega (arith, ap length z)
+optional-sid many cs e = wrong-read e
+optional-sid (one t) cs e = omega (arith, sid-fits t cs e)
+
+pub sid-place :
+    {run run′ : List ℕ} {at p : ℕ} (x : Slot) → Laid heldText run run′ at (optional [] sidOf x) p
+    → p ≤ at + 1 + costOf x
+sid-place x d = omega (arith, d .extends .place, optional-sid x (d .thing) (d .said))
+
+pub entries-place :
+    (g : Json → Reading (List ℕ)) → ((t : Json) (ys : List ℕ) → g t ≡ read ys → length (heldText ys) ≤ cost t)
+    → {run run′ : List ℕ} {at p : ℕ} (t : Json) → Laid (heldList heldText) run run′ at (oneOrMore g t) p
+    → p ≤ at + 1 + cost t
+entries-place g fits t d =
+    omega (arith, d .extends .place, one-or-more-fits heldText g fits t (d .thing) (d .said))
+
+-- ---- one behind the other
+
+module _ (i : Slot) (x y : Json) (c : Slot) where
+  pub sid-left : {run run′ : List ℕ} → Left run run′ (optional [] sidOf i) → Left run run′ (partsOf i x y c)
+  unfolding partsOf
+  sid-left l = left-then _ l
+
+  module _ {run run₁ : List ℕ} {at p : ℕ} (a : Laid heldText run run₁ at (optional [] sidOf i) p) where
+    pub actions-left : {run′ : List ℕ} → Left run₁ run′ (oneOrMore actionOf x) → Left run run′ (partsOf i x y c)
+    unfolding partsOf
+    actions-left l =
+        record { size = l .size ∙ a .extends .size; said = then-read _ (a .said) ∙ then-wrong _ (l .said) }
+
+    module _ {run₂ : List ℕ} {q : ℕ} (b : Laid (heldList heldText) run₁ run₂ p (oneOrMore actionOf x) q) where
+      pub resources-left : {run′ : List ℕ} → Left run₂ run′ (oneOrMore resourceOf y)
+          → Left run run′ (partsOf i x y c)
+      unfolding partsOf
+      resources-left l =
+          record {
+            size = l .size ∙ b .extends .size ∙ a .extends .size;
+            said = then-read _ (a .said) ∙ then-read _ (b .said) ∙ then-wrong _ (l .said);
+          }
+
+      module _ {run₃ : List ℕ} {u : ℕ} (d : Laid (heldList heldText) run₂ run₃ q (oneOrMore resourceOf y) u) where
+        pub parts-holds :
+            (run′ : List ℕ) (r : Held) → Holds (heldList heldRow) run₃ run′ u (optional [] conditionOf c) r
+            → Holds heldParts run run′ at (partsOf i x y c) r
+        unfolding partsOf heldParts
+        parts-holds run′ (Past k) l =
+            record {
+              thing = record { sid = a .thing; actions = b .thing; resources = d .thing; rows = l .thing };
+              said = then-read _ (a .said) ∙ then-read _ (b .said) ∙ then-read _ (d .said) ∙ then-read _ (l .said);
+              extends = extends-then (a .extends) (extends-then (b .extends) (extends-then (d .extends) (l .extends)));
+            }
+        parts-holds run′ Wrong l =
+            record {
+              size = l .size ∙ d .extends .size ∙ b .extends .size ∙ a .extends .size;
+              said = then-read _ (a .said) ∙ then-read _ (b .said) ∙ then-read _ (d .said) ∙ then-wrong _ (l .said);
+            }

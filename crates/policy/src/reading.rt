@@ -1,0 +1,50 @@
+// A policy text and a record, any bytes: held in a lent run, or refused by number and place.
+ghost use Rattle.policy.specs.Limits.{policyBytes};
+ghost use Rattle.policy.specs.Held.{held};
+ghost use Rattle.policy.specs.Reading.{policyRules, Answers, Lent, Fit};
+use crate::holding::Held;
+use crate::refusals::Refusal;
+use crate::runs;
+use crate::statements;
+use text::scan;
+use text::scan::Verdict;
+use text::walk;
+
+// What was read lies at the run's beginning, up to this place; or a refusal.
+pub enum Read {
+    Held(usize),
+    Refused(Refusal),
+}
+
+const POLICY: usize = 16384;
+
+// A whole text that is not too long, as a policy.
+fn whole_policy(s: &[u8], run: &mut [u32]) -> Read
+    requires { ⌜ Fit policyBytes 0 (now s) (now run) ⌝ }
+    ensures { λ r. ⌜ Answers policyRules held (now (s .entry)) (now (run .exit)) r ⌝ }
+{
+    let v = walk::root(s);
+    let h = statements::hold_policy(s, v, run);
+    let Held::Past(n) = h else {
+        return Read::Refused(Refusal::PolicyLayout);
+    };
+    if runs::over_limit(run) {
+        return Read::Refused(Refusal::PolicyLimit);
+    }
+    Read::Held(n)
+}
+
+pub fn read_policy(s: &[u8], run: &mut [u32]) -> Read
+    requires { ⌜ Lent policyBytes 0 (now s) (now run) ⌝ }
+    ensures { λ r. ⌜ Answers policyRules held (now (s .entry)) (now (run .exit)) r ⌝ }
+{
+    if s.len() > POLICY {
+        return Read::Refused(Refusal::PolicyLength);
+    }
+    let v = scan::scan(s);
+    match v {
+        Verdict::Whole => whole_policy(s, run),
+        Verdict::Breaks(p) => Read::Refused(Refusal::PolicyText(p)),
+        Verdict::Deep => Read::Refused(Refusal::PolicyLayout),
+    }
+}
