@@ -35,3 +35,4 @@ pub mod StatementsRead
 pub mod Statements
 pub mod StatementsApart
 pub mod StatementsPolicy
+pub mod Requests

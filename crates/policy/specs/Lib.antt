@@ -15,4 +15,5 @@ pub mod Reading
 pub mod Told
 pub mod Holding
 pub mod Statements
+pub mod Requests
 pub mod Spoken

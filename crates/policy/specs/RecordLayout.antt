@@ -39,16 +39,26 @@ unfoldable pub isPlain : ℕ → Bool
 isPlain c = either (isVendorChar c) (eqb c 58)
 
 -- formed as an Action entry without wildcards
+abbrev pub isActionName : List ℕ → Bool
+isActionName cs = both (isVendor cs) (both (all isPlain cs) (short cs))
+
 unfoldable pub actionNameOf : Json → Reading (List ℕ)
-actionNameOf t = then (charactersOf t) (λ cs. only (both (isVendor cs) (both (all isPlain cs) (short cs))) cs)
+actionNameOf t = then (charactersOf t) (λ cs. only (isActionName cs) cs)
+
+-- "*", or begins arn: and has five colons at least
+abbrev pub isResourceArn : List ℕ → Bool
+isResourceArn cs = both (either (same cs (42 ∷ [])) (isArn cs)) (short cs)
 
 unfoldable pub resourceArnOf : Json → Reading (List ℕ)
-resourceArnOf t = then (charactersOf t) (λ cs. only (both (either (same cs (42 ∷ [])) (isArn cs)) (short cs)) cs)
+resourceArnOf t = then (charactersOf t) (λ cs. only (isResourceArn cs) cs)
 
 -- ---- context entries
 
+abbrev pub isKeyName : List ℕ → Bool
+isKeyName k = both (isKey k) (leb (length k) keyCharacters)
+
 unfoldable pub keyNameOf : Json → Reading (List ℕ)
-keyNameOf t = then (charactersOf t) (λ k. only (both (isKey k) (leb (length k) keyCharacters)) k)
+keyNameOf t = then (charactersOf t) (λ k. only (isKeyName k) k)
 
 abbrev pub asNumber : Reading ℕ → Reading Value
 asNumber wrong = wrong
@@ -81,8 +91,8 @@ contextsOf null = wrong
 contextsOf (bool b) = wrong
 contextsOf (number w) = wrong
 contextsOf (string w) = wrong
-contextsOf (list ts) = then (each contextOf ts) (λ cs. only (both (leb (length cs) mostContext)
-    (differ sameContext cs)) cs)
+contextsOf (list ts) =
+    then (each contextOf ts) (λ cs. only (both (leb (length cs) mostContext) (differ sameContext cs)) cs)
 contextsOf (object ms) = wrong
 
 -- ---- the record

@@ -47,7 +47,7 @@ fn is_alphanumeric(c: u32) -> bool
     }
 }
 
-fn is_vendor_char(c: u32) -> bool
+pub fn is_vendor_char(c: u32) -> bool
     ensures { λ r. ⌜ r ≡ isVendorChar c ⌝ }
 {
     match c {
@@ -97,7 +97,7 @@ fn is_name(cs: &[u32], at: usize) -> bool
     true
 }
 
-fn is_vendor(cs: &[u32]) -> bool
+pub fn is_vendor(cs: &[u32]) -> bool
     ensures { λ r. ⌜ r ≡ isVendor (now (cs .entry)) ⌝ }
 {
     if cs.len() == 0 {
@@ -120,7 +120,7 @@ fn is_vendor(cs: &[u32]) -> bool
     false
 }
 
-fn is_only(cs: &[u32], c: u32) -> bool
+pub fn is_only(cs: &[u32], c: u32) -> bool
     ensures { λ r. ⌜ r ≡ same (now (cs .entry)) (c ∷ []) ⌝ }
 {
     if cs.len() != 1 {

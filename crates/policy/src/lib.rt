@@ -1,11 +1,14 @@
 // Policies and records: layouts, limits, refusals and the decision. Knows nothing of logs and rooms.
+pub mod contexts;
 pub mod entries;
 pub mod forms;
 pub mod holding;
 pub mod members;
 pub mod reading;
 pub mod refusals;
+pub mod requests;
 pub mod rows;
 pub mod runs;
+pub mod sole;
 pub mod statements;
 pub mod words;

@@ -1,9 +1,10 @@
 // A policy text and a record, any bytes: held in a lent run, or refused by number and place.
-ghost use Rattle.policy.specs.Limits.{policyBytes};
-ghost use Rattle.policy.specs.Held.{held};
-ghost use Rattle.policy.specs.Reading.{policyRules, Answers, Lent, Fit};
+ghost use Rattle.policy.specs.Limits.{policyBytes, recordBytes};
+ghost use Rattle.policy.specs.Held.{held, heldRequest};
+ghost use Rattle.policy.specs.Reading.{policyRules, recordRules, Answers, Lent, Fit};
 use crate::holding::Held;
 use crate::refusals::Refusal;
+use crate::requests;
 use crate::runs;
 use crate::statements;
 use text::scan;
@@ -17,6 +18,8 @@ pub enum Read {
 }
 
 const POLICY: usize = 16384;
+
+const RECORD: usize = 8192;
 
 // A whole text that is not too long, as a policy.
 fn whole_policy(s: &[u8], run: &mut [u32]) -> Read
@@ -34,6 +37,19 @@ fn whole_policy(s: &[u8], run: &mut [u32]) -> Read
     Read::Held(n)
 }
 
+// A whole text that is not too long, as a record.
+fn whole_record(s: &[u8], run: &mut [u32]) -> Read
+    requires { ⌜ Fit recordBytes 1 (now s) (now run) ⌝ }
+    ensures { λ r. ⌜ Answers recordRules heldRequest (now (s .entry)) (now (run .exit)) r ⌝ }
+{
+    let v = walk::root(s);
+    let h = requests::hold_request(s, v, run);
+    let Held::Past(n) = h else {
+        return Read::Refused(Refusal::RecordLayout);
+    };
+    Read::Held(n)
+}
+
 pub fn read_policy(s: &[u8], run: &mut [u32]) -> Read
     requires { ⌜ Lent policyBytes 0 (now s) (now run) ⌝ }
     ensures { λ r. ⌜ Answers policyRules held (now (s .entry)) (now (run .exit)) r ⌝ }
@@ -46,5 +62,20 @@ pub fn read_policy(s: &[u8], run: &mut [u32]) -> Read
         Verdict::Whole => whole_policy(s, run),
         Verdict::Breaks(p) => Read::Refused(Refusal::PolicyText(p)),
         Verdict::Deep => Read::Refused(Refusal::PolicyLayout),
+    }
+}
+
+pub fn read_record(s: &[u8], run: &mut [u32]) -> Read
+    requires { ⌜ Lent recordBytes 1 (now s) (now run) ⌝ }
+    ensures { λ r. ⌜ Answers recordRules heldRequest (now (s .entry)) (now (run .exit)) r ⌝ }
+{
+    if s.len() > RECORD {
+        return Read::Refused(Refusal::RecordLength);
+    }
+    let v = scan::scan(s);
+    match v {
+        Verdict::Whole => whole_record(s, run),
+        Verdict::Breaks(p) => Read::Refused(Refusal::RecordText(p)),
+        Verdict::Deep => Read::Refused(Refusal::RecordLayout),
     }
 }

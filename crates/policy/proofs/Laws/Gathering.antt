@@ -61,6 +61,12 @@ module _ {A : Type 0} (h : A → List ℕ) (f : Json → Reading A)
         count = refl;
       }
 
+  pub start-things :
+      {s : List ℕ} {v at : ℕ} {run : List ℕ} (p : HoldableList s v run at) (m : Element)
+      (c : Comes s v (p .what) (p .stop) m) → gathering-start p m c .things ≡ []
+  unfolding gathering-start
+  start-things p m c = refl
+
   module _ {s : List ℕ} {v at : ℕ} {run₀ run : List ℕ} {m : Element} {p n : ℕ}
       (g : Gathering s v run₀ at run m p n) where
     -- of whatever list stands there
@@ -94,6 +100,10 @@ module _ {A : Type 0} (h : A → List ℕ) (f : Json → Reading A)
           count = g .count;
           extends = g .sofar .extends;
         }
+
+    pub end-things : (q : ℕ) (e : m ≡ E.Past q) → gathering-end q e .things ≡ g .things
+    unfolding gathering-end
+    end-things q e = refl
 
     module _ (i : ℕ) (q : m ≡ E.At i) where
       pub next : First s (g .low) (g .left) (g .stop) i
@@ -151,6 +161,14 @@ module _ {A : Type 0} (h : A → List ℕ) (f : Json → Reading A)
                 (fits (next .head) (d .thing) (d .said)) (omega (arith, cost-some (next .head)));
             count = omega (arith, snoc-length (g .things) (d .thing), g .count);
           }
+
+      pub more-things :
+          {run′ : List ℕ} {p′ : ℕ} (d : Laid h run run′ p (f (next .head)) p′) (m′ : Element) (e : ℕ)
+          (k : e ≡ next .stop)
+          (c : (ts : Values) (y : ℕ) → Rest s ts e y → Comes s e ts y m′)
+          → gathering-more d m′ e k c .things ≡ g .things ++ (d .thing ∷ [])
+      unfolding gathering-more
+      more-things d m′ e k c = refl
 
       pub gathering-less :
           (m′ : Element) (e : ℕ) → e ≡ next .stop → ((ts : Values) (y : ℕ) → Rest s ts e y → Comes s e ts y m′)

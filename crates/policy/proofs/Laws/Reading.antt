@@ -100,7 +100,7 @@ module _ {A : Type 0} (k : Rules A) where
       → (n ≡ n′) × (take n run ≡ take n′ run′)
   answers-unique h s run run′ n n′ p q =
       let e : known (p .thing) ≡ known (q .thing) = says-unique s (known (p .thing)) (known (q .thing)) (p .says)
-          (q .says) in
+      (q .says) in
       let t : p .thing ≡ q .thing = cc in
       let same : take n run ≡ take n′ run′ = p .is ∙ ap h t ∙ sym (q .is) in
       let l = ap length same in

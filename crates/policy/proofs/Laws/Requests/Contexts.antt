@@ -1,0 +1,131 @@
+-- The context entries of a record: a list of them, none of a key given twice, not too many, behind their number.
+use mathlib.Core.Path.{_≡_, refl, sym, ap, _∙_, subst}
+use mathlib.Core.Bool.{Bool, true, false}
+use mathlib.Core.List.{List, [], _∷_}
+use Prim.Native.Nat.{ℕ, _+_, _≤_, _<_}
+use native.Mathlib.Omega.{arith}
+use lib.Dec.{leb}
+use lib.ListN.{length, set}
+use borrow.Author.Tests.{le-leb, lt-leb}
+use Rattle.text.specs.Json.{Json, null, bool, number, string, list, object}
+use Rattle.text.specs.Contents.{kindOf, Stands}
+use Rattle.policy.specs.Limits.{mostContext}
+use Rattle.policy.specs.Policy.{Context}
+use Rattle.policy.specs.Forms.{Reading, wrong, read, both}
+use Rattle.policy.specs.Members.{Slot, then, only, each, differ, differing, optional}
+use Rattle.policy.specs.RecordLayout.{contextOf, sameContext, contextsOf}
+use Rattle.policy.specs.Held.{heldEach, heldList, heldContext}
+use Rattle.policy.specs.Slots.{Placed}
+use Rattle.policy.specs.Room.{cost, costs, Roomy, HoldableList}
+use Rattle.policy.specs.Holding.{isList, Extends, Laid, Gathered}
+use Rattle.policy.specs.Requests.{valueCost}
+use Rattle.policy.proofs.Laws.Holding.{never}
+use Rattle.policy.proofs.Laws.Room.{cost-list}
+use Rattle.policy.proofs.Laws.Extends.{extends-front}
+use Rattle.policy.proofs.Laws.Fits.{wrong-read}
+use Rattle.policy.proofs.Laws.Requests.Members.{Found, placed-found}
+use Rattle.policy.proofs.Laws.Requests.Sole.{AList, is-list, list-stands}
+
+-- ---- what a list says
+
+not-list : (t : Json) → isList (kindOf t) ≡ false → contextsOf t ≡ wrong
+unfolding contextsOf
+not-list null e = refl
+not-list (bool true) e = refl
+not-list (bool false) e = refl
+not-list (number w) e = refl
+not-list (string w) e = refl
+not-list (list ts) e = never (sym e)
+not-list (object ms) e = refl
+
+-- no two of one key; and not too many
+abbrev pub apartly : Reading (List Context) → Reading (List Context)
+apartly y = then y (differing sameContext)
+
+abbrev limited : Reading (List Context) → Reading (List Context)
+limited y = then y (λ cs. only (both (leb (length cs) mostContext) (differ sameContext cs)) cs)
+
+only-wrong : (a b : Bool) (cs : List Context) → only b cs ≡ wrong → only (both a b) cs ≡ wrong
+only-wrong true b cs e = e
+only-wrong false b cs e = refl
+
+only-read : (b : Bool) (cs ds : List Context) → only b cs ≡ read ds → (b ≡ true) × (cs ≡ ds)
+only-read true cs ds e = (refl, cc)
+only-read false cs ds e = wrong-read e
+
+limited-wrong : (y : Reading (List Context)) → apartly y ≡ wrong → limited y ≡ wrong
+limited-wrong wrong e = refl
+limited-wrong (read cs) e = only-wrong (leb (length cs) mostContext) (differ sameContext cs) cs e
+
+limited-is : (y : Reading (List Context)) (ds : List Context) → apartly y ≡ read ds
+    → limited y ≡ only (leb (length ds) mostContext) ds
+limited-is wrong ds e = wrong-read e
+limited-is (read cs) ds e =
+    let p = only-read (differ sameContext cs) cs ds e in
+    ap (λ (b : Bool). only (both (leb (length cs) mostContext) b) cs) (p .0) ∙ by (leb (length cs) mostContext)
+    ∙ ap (λ (l : List Context). only (leb (length l) mostContext) l) (p .1)
+  where
+    by : (a : Bool) → only (both a true) cs ≡ only a cs
+    by true = refl
+    by false = refl
+
+-- ---- of a member
+
+module _ {s : List ℕ} {v : ℕ} {x : Slot} (p : Placed s v x) (h : v ≡ 0 → ⊥) where
+  pub found : Found s v x
+  found = placed-found p h
+
+  pub contexts-not : isList (kindOf (found .what)) ≡ false → optional [] contextsOf x ≡ wrong
+  contexts-not e = ap (optional [] contextsOf) (found .is) ∙ not-list (found .what) e
+
+  module _ (l : isList (kindOf (found .what)) ≡ true) where
+    pub listed : AList (found .what)
+    listed = is-list (found .what) l
+
+    pub listed-stands : Stands s (list (listed .elements)) v (found .stop)
+    listed-stands = list-stands (found .at) listed
+
+    abbrev entries : Reading (List Context)
+    entries = each contextOf (listed .elements)
+
+    contexts-said : optional [] contextsOf x ≡ limited entries
+    unfolding contextsOf
+    contexts-said = ap (optional [] contextsOf) (found .is) ∙ ap contextsOf (listed .is)
+
+    pub contexts-wrong : apartly entries ≡ wrong → optional [] contextsOf x ≡ wrong
+    contexts-wrong e = contexts-said ∙ limited-wrong entries e
+
+    module _ (cs : List Context) (e : apartly entries ≡ read cs) where
+      pub contexts-many : mostContext < length cs → optional [] contextsOf x ≡ wrong
+      contexts-many m =
+          contexts-said ∙ limited-is entries cs e
+          ∙ ap (λ (b : Bool). only b cs) (lt-leb (length cs) mostContext m)
+
+      pub contexts-few : length cs ≤ mostContext → optional [] contextsOf x ≡ read cs
+      contexts-few m =
+          contexts-said ∙ limited-is entries cs e
+          ∙ ap (λ (b : Bool). only b cs) (le-leb (length cs) mostContext m)
+
+    pub contexts-room : {run : List ℕ} {at : ℕ} → Roomy run at (1 + valueCost x) → HoldableList s v run (at + 1)
+    contexts-room {run} {at} r =
+        let c : valueCost x ≡ 2 + costs (listed .elements) =
+        ap valueCost (found .is) ∙ ap cost (listed .is) ∙ cost-list (listed .elements) in
+        record {
+          what = listed .elements;
+          stop = found .stop;
+          is = listed-stands;
+          roomy = record { room = omega (arith, c, r .room); bounded = r .bounded };
+        }
+
+-- behind their number
+pub contexts-held :
+    {run run₁ : List ℕ} {at p n : ℕ} {x : Reading (List Context)} (y : Reading (List Context)) → at < length run
+    → (g : Gathered heldContext run run₁ (at + 1) x p n) → y ≡ read (g .things)
+    → Laid (heldList heldContext) run (set run₁ at n) at y p
+contexts-held {run} {run₁} {at} {p} {n} y low g e =
+    record {
+      thing = g .things;
+      said = e;
+      extends = subst (λ (k : ℕ). Extends run (set run₁ at n) at (k ∷ heldEach heldContext (g .things)) p) (g .count)
+          (extends-front n low (g .extends));
+    }

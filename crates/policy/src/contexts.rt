@@ -1,0 +1,231 @@
+// The context entries of a record, held as numbers in a lent run one behind the other.
+ghost use mathlib.Core.Path.{_≡_};
+ghost use mathlib.Core.List.{List, []};
+ghost use Prim.Native.Nat.{ℕ, _+_, _≤_};
+ghost use lib.ListN.{length};
+ghost use Rattle.text.specs.Json.{Json, Values, list};
+ghost use Rattle.text.specs.Contents.{Stands};
+ghost use Rattle.policy.specs.Limits.{greatest};
+ghost use Rattle.policy.specs.Policy.{Context};
+ghost use Rattle.policy.specs.Members.{Slot, then, charactersOf, required, optional, each, hasLike, differing};
+ghost use Rattle.policy.specs.RecordLayout.{onlyOne, isKeyName, keyNameOf, contextOf, sameContext, contextsOf};
+ghost use Rattle.policy.specs.Held.{heldText, heldNumber, heldValue, heldEach, heldList, heldContext};
+ghost use Rattle.policy.specs.Slots.{Placed};
+ghost use Rattle.policy.specs.Room.{Roomy, Holdable, HoldableList};
+ghost use Rattle.policy.specs.Lying.{Lies, Lying, LyingMany};
+ghost use Rattle.policy.specs.Holding.{Extends, Holds, Gathers};
+ghost use Rattle.policy.specs.Requests.{Placing, HoldableSlot, typeOf, typedAs};
+use crate::forms;
+use crate::forms::Number;
+use crate::holding;
+use crate::holding::Counted;
+use crate::holding::Held;
+use crate::members;
+use crate::members::Layout;
+use crate::sole;
+use crate::words;
+use text::walk;
+use text::walk::Element;
+
+const ENTRY: usize = 254;
+
+const KEY: usize = 64;
+
+const CONTEXTS: usize = 16;
+
+const MARK: u32 = 2147483648;
+
+const HALF: u64 = 4294967296;
+
+fn is_key_name(cs: &[u32]) -> bool
+    ensures { λ r. ⌜ r ≡ isKeyName (now (cs .entry)) ⌝ }
+{
+    if !forms::is_key(cs) {
+        return false;
+    }
+    cs.len() <= KEY
+}
+
+fn hold_key_name(s: &[u8], v: usize, run: &mut [u32], at: usize) -> Held
+    requires { ⌜ HoldableSlot (now s) v (now run) at 0 ⌝ }
+    ensures { λ r. ⌜ ((x : Slot) → Placed (now (s .entry)) v x → Holds heldText (now (run .entry)) (now (run .exit)) at (required keyNameOf x) r) ⌝ }
+{
+    if v == 0 {
+        return Held::Wrong;
+    }
+    let h = holding::hold_text(s, v, run, at);
+    let Held::Past(p) = h else {
+        return Held::Wrong;
+    };
+    let first = at + 1;
+    if !is_key_name(&run[first..p]) {
+        return Held::Wrong;
+    }
+    Held::Past(p)
+}
+
+// The type that a member names: 1 a text, 2 a number; 0 where it names none.
+fn type_at(s: &[u8], v: usize) -> u32
+    requires { ⌜ Placing (now s) v ⌝ }
+    ensures { λ r. ⌜ ((x : Slot) → Placed (now (s .entry)) v x → r ≡ typeOf x) ⌝ }
+{
+    if v == 0 {
+        return 0;
+    }
+    if words::is_word(s, v, b"string") {
+        return 1;
+    }
+    if words::is_word(s, v, b"numeric") {
+        return 2;
+    }
+    0
+}
+
+// The number's two halves, the upper one marked; answers the place behind them.
+fn put_number(run: &mut [u32], at: usize, n: u64) -> usize
+    requires { ⌜ (Roomy (now run) at 2) × (n ≤ greatest) ⌝ }
+    ensures { λ r. ⌜ Extends (now (run .entry)) (now (run .exit)) at (heldNumber n) r ⌝ }
+{
+    let high = n / HALF;
+    let low = n % HALF;
+    run[at + 1] = low as u32;
+    run[at] = MARK + high as u32;
+    at + 2
+}
+
+// The value of a context entry, by the type that it names.
+fn hold_typed(s: &[u8], v: usize, run: &mut [u32], at: usize, kind: u32) -> Held
+    requires { ⌜ HoldableSlot (now s) v (now run) at 0 ⌝ }
+    ensures { λ r. ⌜ ((x : Slot) → Placed (now (s .entry)) v x → Holds heldValue (now (run .entry)) (now (run .exit)) at (then (required (onlyOne charactersOf) x) (typedAs kind)) r) ⌝ }
+{
+    let h = sole::hold_only(s, v, run, at);
+    let Held::Past(p) = h else {
+        return Held::Wrong;
+    };
+    let first = at + 1;
+    if kind == 1 {
+        if ENTRY < p - first {
+            return Held::Wrong;
+        }
+        return Held::Past(p);
+    }
+    let k = forms::number_in(&run[first..p]);
+    let Number::Is(n) = k else {
+        return Held::Wrong;
+    };
+    Held::Past(put_number(run, at, n))
+}
+
+// A context entry: its type, its key and its value.
+fn hold_context(s: &[u8], v: usize, run: &mut [u32], at: usize) -> Held
+    requires { ⌜ Holdable (now s) v (now run) at 0 ⌝ }
+    ensures { λ r. ⌜ ((t : Json) (e : ℕ) → Stands (now (s .entry)) t v e → Holds heldContext (now (run .entry)) (now (run .exit)) at (contextOf t) r) ⌝ }
+{
+    if !holding::is_object(walk::kind_at(s, v)) {
+        return Held::Wrong;
+    }
+    let places = members::slots(s, v, Layout::Context);
+    if places[0] != 0 {
+        return Held::Wrong;
+    }
+    let h = hold_key_name(s, places[1], run, at + 1);
+    let Held::Past(p) = h else {
+        return Held::Wrong;
+    };
+    let kind = type_at(s, places[2]);
+    if kind == 0 {
+        return Held::Wrong;
+    }
+    run[at] = kind;
+    hold_typed(s, places[3], run, p, kind)
+}
+
+// The place behind the context entry that lies at a place.
+fn past_context(run: &[u32], at: usize) -> usize
+    requires { ⌜ Lying heldContext (now run) at ⌝ }
+    ensures { λ r. ⌜ ((x : Context) → Lies (now (run .entry)) at (heldContext x) → r ≡ at + length (heldContext x)) ⌝ }
+{
+    let v = at + 2 + run[at + 1] as usize;
+    if run[at] == 2 {
+        return v + 2;
+    }
+    v + 1 + run[v] as usize
+}
+
+// Have the context entries at two places the same key?
+fn same_context_at(run: &[u32], p: usize, q: usize) -> bool
+    requires { ⌜ (Lying heldContext (now run) p) × (Lying heldContext (now run) q) ⌝ }
+    ensures { λ r. ⌜ ((x y : Context) → Lies (now (run .entry)) p (heldContext x) → Lies (now (run .entry)) q (heldContext y) → r ≡ sameContext x y) ⌝ }
+{
+    let from = p + 2;
+    let to = from + run[p + 1] as usize;
+    let a = q + 2;
+    let b = a + run[q + 1] as usize;
+    forms::same_key(&run[from..to], &run[a..b])
+}
+
+// Has one of the n context entries from a place on the key of the entry at p?
+fn has_context_key(run: &[u32], at: usize, n: usize, p: usize) -> bool
+    requires { ⌜ (LyingMany heldContext (now run) at n) × (Lying heldContext (now run) p) ⌝ }
+    ensures { λ r. ⌜ ((xs : List Context) (x : Context) → n ≡ length xs → Lies (now (run .entry)) at (heldEach heldContext xs) → Lies (now (run .entry)) p (heldContext x) → r ≡ hasLike sameContext x xs) ⌝ }
+{
+    let mut q = at;
+    let mut i = 0usize;
+    while i < n {
+        if same_context_at(run, p, q) {
+            return true;
+        }
+        q = past_context(run, q);
+        i = i + 1;
+    }
+    false
+}
+
+// The context entries of the list that stands at a place, no two of them with one key.
+fn hold_differing(s: &[u8], v: usize, run: &mut [u32], at: usize) -> Counted
+    requires { ⌜ HoldableList (now s) v (now run) at ⌝ }
+    ensures { λ r. ⌜ ((ts : Values) (e : ℕ) → Stands (now (s .entry)) (list ts) v e → Gathers heldContext (now (run .entry)) (now (run .exit)) at (then (each contextOf ts) (differing sameContext)) r) ⌝ }
+{
+    let mut m = walk::first_element(s, v);
+    let mut p = at;
+    let mut n = 0usize;
+    loop {
+        let Element::At(i) = m else {
+            return Counted::Several { past: p, count: n };
+        };
+        let h = hold_context(s, i, run, p);
+        let Held::Past(q) = h else {
+            return Counted::Wrong;
+        };
+        if has_context_key(run, at, n, p) {
+            return Counted::Wrong;
+        }
+        p = q;
+        n = n + 1;
+        let e = walk::past_value(s, i);
+        m = walk::next_element(s, e);
+    }
+}
+
+// The context entries of a member, behind their number; there are none where it is absent.
+pub fn hold_contexts(s: &[u8], v: usize, run: &mut [u32], at: usize) -> Held
+    requires { ⌜ HoldableSlot (now s) v (now run) at 1 ⌝ }
+    ensures { λ r. ⌜ ((x : Slot) → Placed (now (s .entry)) v x → Holds (heldList heldContext) (now (run .entry)) (now (run .exit)) at (optional [] contextsOf x) r) ⌝ }
+{
+    if v == 0 {
+        run[at] = 0;
+        return Held::Past(at + 1);
+    }
+    if !holding::is_list(walk::kind_at(s, v)) {
+        return Held::Wrong;
+    }
+    let c = hold_differing(s, v, run, at + 1);
+    let Counted::Several { past, count } = c else {
+        return Held::Wrong;
+    };
+    if CONTEXTS < count {
+        return Held::Wrong;
+    }
+    run[at] = count as u32;
+    Held::Past(past)
+}
