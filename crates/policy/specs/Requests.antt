@@ -1,10 +1,10 @@
 -- Requests: what the functions that hold a record cite, beside the record layout.
 --   soleOf t           the element of a list of exactly one
---   Placing, HoldableSlot   a member is absent or stands at a place; and the run has room for it and n numbers
+--   Placing            a member is absent or stands at a place
 --   typeOf x           the type that a member names: 1 a text, 2 a number, 0 none
 --   typedAs k cs       the value of type k that characters say
 use mathlib.Core.List.{List}
-use Prim.Native.Nat.{ℕ, _+_}
+use Prim.Native.Nat.{ℕ}
 use lib.Dec.{eqb}
 use Rattle.text.specs.Base.{pick}
 use Rattle.text.specs.Json.{Json, null, bool, number, string, list, object, no-more, also}
@@ -14,7 +14,6 @@ use Rattle.policy.specs.Words.{stringTypeWord, numericTypeWord}
 use Rattle.policy.specs.Members.{Slot, none, many, one, only, isWord}
 use Rattle.policy.specs.Slots.{Placed}
 use Rattle.policy.specs.RecordLayout.{short, asNumber}
-use Rattle.policy.specs.Room.{cost, Roomy}
 
 abbrev pub soleOf : Json → Slot
 soleOf null = none
@@ -28,19 +27,9 @@ soleOf (object ms) = none
 
 -- ---- members
 
-abbrev pub valueCost : Slot → ℕ
-valueCost none = 0
-valueCost many = 0
-valueCost (one t) = cost t
-
 pub record Placing (s : List ℕ) (v : ℕ) : Type 0 where
   pub what : Slot
   pub is : Placed s v what
-
-pub record HoldableSlot (s : List ℕ) (v : ℕ) (run : List ℕ) (at n : ℕ) : Type 0 where
-  pub what : Slot
-  pub is : Placed s v what
-  pub roomy : Roomy run at (n + valueCost what)
 
 -- ---- types of a context entry
 

@@ -10,6 +10,8 @@ use Rattle.text.specs.Json.{Json, null, bool, number, string, list, object, Val
 use Rattle.text.specs.Json.{no-members, named}
 use Rattle.text.specs.Contents.{Stands}
 use Rattle.policy.specs.Limits.{runNumbers}
+use Rattle.policy.specs.Members.{Slot, none, many, one}
+use Rattle.policy.specs.Slots.{Placed}
 
 unfoldable mutual
   pub cost : Json → ℕ
@@ -50,6 +52,17 @@ pub record HoldableObject (s : List ℕ) (v : ℕ) (run : List ℕ) (at : ℕ) :
   pub stop : ℕ
   pub is : Stands s (object what) v stop
   pub roomy : Roomy run at (costm what)
+
+abbrev pub costOf : Slot → ℕ
+costOf none = 0
+costOf many = 0
+costOf (one t) = cost t
+
+-- a member that is absent or stands at v, with n numbers beside its cost
+pub record HoldableSlot (s : List ℕ) (v : ℕ) (run : List ℕ) (at n : ℕ) : Type 0 where
+  pub what : Slot
+  pub is : Placed s v what
+  pub roomy : Roomy run at (n + costOf what)
 
 -- a member: its raw name and its value, which stands at v
 pub record HoldableMember (s : List ℕ) (n m v : ℕ) (run : List ℕ) (at : ℕ) : Type 0 where

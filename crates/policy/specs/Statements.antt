@@ -1,7 +1,6 @@
 -- Statements: what the contracts of `statements` cite besides the layout and the held form.
 --   effectTold x        the number that tells an effect; 0 where it is wrong
 --   partsOf i x r c     what a statement has besides its effect, from the values of its members
---   HoldableSlot ..     a member stands at a place or is absent, and the run has room for a number and its cost
 --   HoldableParts ..    so do all that partsOf reads
 --   HoldablePolicy ..   a value stands at a place, and the run is at most one number shorter than its cost
 use mathlib.Core.List.{List, [], _++_}
@@ -16,7 +15,7 @@ use Rattle.policy.specs.Members.{then, Slot, none, many, one, optional, 
 use Rattle.policy.specs.Slots.{Placed}
 use Rattle.policy.specs.PolicyLayout.{actionOf, resourceOf, conditionOf, sidOf}
 use Rattle.policy.specs.Held.{heldText, heldList, heldRow, effectNumber}
-use Rattle.policy.specs.Room.{cost, Roomy}
+use Rattle.policy.specs.Room.{cost, costOf, Roomy}
 
 abbrev pub effectTold : Reading Effect → ℕ
 effectTold wrong = 0
@@ -44,16 +43,6 @@ heldParts p =
     (heldList heldText (p .resources) ++ heldList heldRow (p .rows)))
 
 -- ---- room
-
-abbrev pub costOf : Slot → ℕ
-costOf none = 0
-costOf many = 0
-costOf (one t) = cost t
-
-pub record HoldableSlot (s : List ℕ) (v : ℕ) (run : List ℕ) (at : ℕ) : Type 0 where
-  pub what : Slot
-  pub is : Placed s v what
-  pub roomy : Roomy run at (1 + costOf what)
 
 pub record HoldableParts (s : List ℕ) (i x r c : ℕ) (run : List ℕ) (at : ℕ) : Type 0 where
   pub sid : Slot

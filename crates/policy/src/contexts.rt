@@ -5,21 +5,21 @@ ghost use Prim.Native.Nat.{ℕ, _+_, _≤_};
 ghost use lib.ListN.{length};
 ghost use Rattle.text.specs.Json.{Json, Values, list};
 ghost use Rattle.text.specs.Contents.{Stands};
-ghost use Rattle.policy.specs.Limits.{greatest};
 ghost use Rattle.policy.specs.Policy.{Context};
 ghost use Rattle.policy.specs.Members.{Slot, then, charactersOf, required, optional, each, hasLike, differing};
 ghost use Rattle.policy.specs.RecordLayout.{onlyOne, isKeyName, keyNameOf, contextOf, sameContext, contextsOf};
 ghost use Rattle.policy.specs.Held.{heldText, heldNumber, heldValue, heldEach, heldList, heldContext};
 ghost use Rattle.policy.specs.Slots.{Placed};
-ghost use Rattle.policy.specs.Room.{Roomy, Holdable, HoldableList};
+ghost use Rattle.policy.specs.Room.{Roomy, Holdable, HoldableList, HoldableSlot};
 ghost use Rattle.policy.specs.Lying.{Lies, Lying, LyingMany};
 ghost use Rattle.policy.specs.Holding.{Extends, Holds, Gathers};
-ghost use Rattle.policy.specs.Requests.{Placing, HoldableSlot, typeOf, typedAs};
+ghost use Rattle.policy.specs.Requests.{Placing, typeOf, typedAs};
 use crate::forms;
 use crate::forms::Number;
 use crate::holding;
 use crate::holding::Counted;
 use crate::holding::Held;
+use crate::limits;
 use crate::members;
 use crate::members::Layout;
 use crate::sole;
@@ -27,23 +27,13 @@ use crate::words;
 use text::walk;
 use text::walk::Element;
 
-const ENTRY: usize = 254;
-
-const KEY: usize = 64;
-
-const CONTEXTS: usize = 16;
-
-const MARK: u32 = 2147483648;
-
-const HALF: u64 = 4294967296;
-
 fn is_key_name(cs: &[u32]) -> bool
     ensures { λ r. ⌜ r ≡ isKeyName (now (cs .entry)) ⌝ }
 {
     if !forms::is_key(cs) {
         return false;
     }
-    cs.len() <= KEY
+    cs.len() <= limits::KEY
 }
 
 fn hold_key_name(s: &[u8], v: usize, run: &mut [u32], at: usize) -> Held
@@ -81,18 +71,6 @@ fn type_at(s: &[u8], v: usize) -> u32
     0
 }
 
-// The number's two halves, the upper one marked; answers the place behind them.
-fn put_number(run: &mut [u32], at: usize, n: u64) -> usize
-    requires { ⌜ (Roomy (now run) at 2) × (n ≤ greatest) ⌝ }
-    ensures { λ r. ⌜ Extends (now (run .entry)) (now (run .exit)) at (heldNumber n) r ⌝ }
-{
-    let high = n / HALF;
-    let low = n % HALF;
-    run[at + 1] = low as u32;
-    run[at] = MARK + high as u32;
-    at + 2
-}
-
 // The value of a context entry, by the type that it names.
 fn hold_typed(s: &[u8], v: usize, run: &mut [u32], at: usize, kind: u32) -> Held
     requires { ⌜ HoldableSlot (now s) v (now run) at 0 ⌝ }
@@ -104,7 +82,7 @@ fn hold_typed(s: &[u8], v: usize, run: &mut [u32], at: usize, kind: u32) -> Held
     };
     let first = at + 1;
     if kind == 1 {
-        if ENTRY < p - first {
+        if limits::ENTRY < p - first {
             return Held::Wrong;
         }
         return Held::Past(p);
@@ -113,7 +91,7 @@ fn hold_typed(s: &[u8], v: usize, run: &mut [u32], at: usize, kind: u32) -> Held
     let Number::Is(n) = k else {
         return Held::Wrong;
     };
-    Held::Past(put_number(run, at, n))
+    Held::Past(holding::put_number(run, at, n))
 }
 
 // A context entry: its type, its key and its value.
@@ -223,7 +201,7 @@ pub fn hold_contexts(s: &[u8], v: usize, run: &mut [u32], at: usize) -> Held
     let Counted::Several { past, count } = c else {
         return Held::Wrong;
     };
-    if CONTEXTS < count {
+    if limits::CONTEXTS < count {
         return Held::Wrong;
     }
     run[at] = count as u32;

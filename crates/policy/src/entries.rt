@@ -124,10 +124,6 @@ fn number_at(s: &[u8], v: usize, run: &mut [u32], at: usize) -> Number
     forms::number_in(&run[first..p])
 }
 
-const MARK: u32 = 2147483648;
-
-const HALF: u64 = 4294967296;
-
 fn hold_number(s: &[u8], v: usize, run: &mut [u32], at: usize) -> Held
     requires { ⌜ Holdable (now s) v (now run) at 0 ⌝ }
     ensures { λ r. ⌜ ((t : Json) (e : ℕ) → Stands (now (s .entry)) t v e → Holds heldNumber (now (run .entry)) (now (run .exit)) at (numberOfJson t) r) ⌝ }
@@ -136,11 +132,7 @@ fn hold_number(s: &[u8], v: usize, run: &mut [u32], at: usize) -> Held
     let Number::Is(n) = k else {
         return Held::Wrong;
     };
-    let high = n / HALF;
-    let low = n % HALF;
-    run[at + 1] = low as u32;
-    run[at] = MARK + high as u32;
-    Held::Past(at + 2)
+    Held::Past(holding::put_number(run, at, n))
 }
 
 fn hold_value(s: &[u8], v: usize, run: &mut [u32], at: usize, o: Operator) -> Held

@@ -8,6 +8,7 @@ ghost use Rattle.policy.specs.Forms.{same, isAlphanumeric, isVendorChar,
 ghost use Rattle.policy.specs.Forms.{wildcard, colons, isArn, isResource, isSid, isKeyChar, isKey};
 ghost use Rattle.policy.specs.Forms.{symbol, symbolsOf, numberIn, lower, sameKey};
 ghost use Rattle.policy.specs.Told.{toldNumber, withDigit, isRead, Opened, Says, converted};
+use crate::limits;
 
 // A number; or the characters are none.
 pub enum Number {
@@ -26,10 +27,6 @@ enum Step {
     Symbol { c: u32, past: usize },
     Wrong,
 }
-
-const SID: usize = 64;
-
-const GREATEST: u64 = 9007199254740991;
 
 // They stand for * and ? where these are wildcards; no character has these numbers.
 pub const STAR: u32 = 1114112;
@@ -144,7 +141,7 @@ pub fn is_sid(cs: &[u32]) -> bool
     if cs.len() == 0 {
         return false;
     }
-    if SID < cs.len() {
+    if limits::SID < cs.len() {
         return false;
     }
     let mut i = 0;
@@ -222,7 +219,7 @@ fn with_digit(n: u64, c: u32) -> Number
     match c {
         48..=57 => {
             let m = n * 10 + (c - 48) as u64;
-            if m <= GREATEST {
+            if m <= limits::GREATEST {
                 Number::Is(m)
             } else {
                 Number::Wrong

@@ -1,13 +1,15 @@
 // Strings of a text held as numbers in a lent run, one behind the other.
 ghost use mathlib.Core.Path.{_≡_};
-ghost use Prim.Native.Nat.{ℕ, _+_};
+ghost use Prim.Native.Nat.{ℕ, _+_, _≤_};
 ghost use lib.ListN.{length};
 ghost use Rattle.text.specs.Json.{Json};
 ghost use Rattle.text.specs.Contents.{Stands};
 ghost use Rattle.policy.specs.Members.{characters, charactersOf};
-ghost use Rattle.policy.specs.Held.{heldText};
+ghost use Rattle.policy.specs.Limits.{greatest};
+ghost use Rattle.policy.specs.Held.{heldText, heldNumber};
 ghost use Rattle.policy.specs.Room.{Roomy, Holdable};
-ghost use Rattle.policy.specs.Holding.{isText, isNumber, isList, isObject, Holds};
+ghost use Rattle.policy.specs.Holding.{isText, isNumber, isList, isObject, Extends, Holds};
+use crate::limits;
 use text::strings::Decoded;
 use text::walk::Kind;
 
@@ -109,4 +111,16 @@ pub fn hold_text(s: &[u8], v: usize, run: &mut [u32], at: usize) -> Held
     let from = q.from;
     let to = q.to;
     hold_raw(&s[from..to], run, at)
+}
+
+// The number's two halves, the upper one marked; answers the place behind them.
+pub fn put_number(run: &mut [u32], at: usize, n: u64) -> usize
+    requires { ⌜ (Roomy (now run) at 2) × (n ≤ greatest) ⌝ }
+    ensures { λ r. ⌜ Extends (now (run .entry)) (now (run .exit)) at (heldNumber n) r ⌝ }
+{
+    let high = n / limits::HALF;
+    let low = n % limits::HALF;
+    run[at + 1] = low as u32;
+    run[at] = limits::MARK + high as u32;
+    at + 2
 }

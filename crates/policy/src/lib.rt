@@ -3,6 +3,7 @@ pub mod contexts;
 pub mod entries;
 pub mod forms;
 pub mod holding;
+pub mod limits;
 pub mod members;
 pub mod reading;
 pub mod refusals;

@@ -3,6 +3,7 @@ ghost use Rattle.policy.specs.Limits.{policyBytes, recordBytes};
 ghost use Rattle.policy.specs.Held.{held, heldRequest};
 ghost use Rattle.policy.specs.Reading.{policyRules, recordRules, Answers, Lent, Fit};
 use crate::holding::Held;
+use crate::limits;
 use crate::refusals::Refusal;
 use crate::requests;
 use crate::runs;
@@ -16,10 +17,6 @@ pub enum Read {
     Held(usize),
     Refused(Refusal),
 }
-
-const POLICY: usize = 16384;
-
-const RECORD: usize = 8192;
 
 // A whole text that is not too long, as a policy.
 fn whole_policy(s: &[u8], run: &mut [u32]) -> Read
@@ -54,7 +51,7 @@ pub fn read_policy(s: &[u8], run: &mut [u32]) -> Read
     requires { ⌜ Lent policyBytes 0 (now s) (now run) ⌝ }
     ensures { λ r. ⌜ Answers policyRules held (now (s .entry)) (now (run .exit)) r ⌝ }
 {
-    if s.len() > POLICY {
+    if s.len() > limits::POLICY {
         return Read::Refused(Refusal::PolicyLength);
     }
     let v = scan::scan(s);
@@ -69,7 +66,7 @@ pub fn read_record(s: &[u8], run: &mut [u32]) -> Read
     requires { ⌜ Lent recordBytes 1 (now s) (now run) ⌝ }
     ensures { λ r. ⌜ Answers recordRules heldRequest (now (s .entry)) (now (run .exit)) r ⌝ }
 {
-    if s.len() > RECORD {
+    if s.len() > limits::RECORD {
         return Read::Refused(Refusal::RecordLength);
     }
     let v = scan::scan(s);

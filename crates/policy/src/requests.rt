@@ -10,19 +10,17 @@ ghost use Rattle.policy.specs.RecordLayout.{onlyOne, isPlain, isActionNa
 ghost use Rattle.policy.specs.RecordLayout.{resourceArnOf, requestOf};
 ghost use Rattle.policy.specs.Held.{heldText, heldRequest};
 ghost use Rattle.policy.specs.Slots.{Placed};
-ghost use Rattle.policy.specs.Room.{Holdable};
+ghost use Rattle.policy.specs.Room.{Holdable, HoldableSlot};
 ghost use Rattle.policy.specs.Holding.{Holds};
-ghost use Rattle.policy.specs.Requests.{HoldableSlot};
 use crate::contexts;
 use crate::forms;
 use crate::holding;
 use crate::holding::Held;
+use crate::limits;
 use crate::members;
 use crate::members::Layout;
 use crate::sole;
 use text::walk;
-
-const ENTRY: usize = 254;
 
 fn is_plain_char(c: u32) -> bool
     ensures { λ r. ⌜ r ≡ isPlain c ⌝ }
@@ -55,13 +53,13 @@ fn is_action_name(cs: &[u32]) -> bool
     if !is_plain(cs) {
         return false;
     }
-    cs.len() <= ENTRY
+    cs.len() <= limits::ENTRY
 }
 
 fn is_resource_arn(cs: &[u32]) -> bool
     ensures { λ r. ⌜ r ≡ isResourceArn (now (cs .entry)) ⌝ }
 {
-    if ENTRY < cs.len() {
+    if limits::ENTRY < cs.len() {
         return false;
     }
     if forms::is_only(cs, 42) {

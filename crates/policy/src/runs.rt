@@ -11,6 +11,7 @@ ghost use Rattle.policy.specs.Held.{anyOf, longValue, rowOver, rowEntrie
 ghost use Rattle.policy.specs.Held.{statementOver, statementEntries, overLimit};
 ghost use Rattle.policy.specs.Lying.{Lies, Lying, LyingMany, Passes};
 use crate::forms;
+use crate::limits;
 
 // The place behind what was walked over, its entries, and whether one of its limits is passed.
 pub struct Seen {
@@ -19,24 +20,12 @@ pub struct Seen {
     pub over: bool,
 }
 
-const MARK: u32 = 2147483648;
-
-const ENTRY: u32 = 254;
-
-const KEY: u32 = 64;
-
-const ROWS: usize = 8;
-
-const STATEMENTS: usize = 16;
-
-const ENTRIES: usize = 64;
-
 fn value(run: &[u32], at: usize) -> Seen
     requires { ⌜ Lying heldValue (now run) at ⌝ }
     ensures { λ r. ⌜ ((x : Value) → Lies (now (run .entry)) at (heldValue x) → Passes at (heldValue x) 1 (longValue x) r) ⌝ }
 {
     let n = run[at];
-    if n >= MARK {
+    if n >= limits::MARK {
         return Seen {
             past: at + 2,
             entries: 1,
@@ -46,7 +35,7 @@ fn value(run: &[u32], at: usize) -> Seen
     Seen {
         past: at + 1 + n as usize,
         entries: 1,
-        over: n > ENTRY,
+        over: n as usize > limits::ENTRY,
     }
 }
 
@@ -83,12 +72,12 @@ pub fn row(run: &[u32], at: usize) -> Seen
     requires { ⌜ Lying heldRow (now run) at ⌝ }
     ensures { λ r. ⌜ ((x : Row) → Lies (now (run .entry)) at (heldRow x) → Passes at (heldRow x) (length (x .entries)) (rowOver x) r) ⌝ }
 {
-    let n = run[at + 1];
-    let l = list(run, at + 2 + n as usize);
+    let n = run[at + 1] as usize;
+    let l = list(run, at + 2 + n);
     Seen {
         past: l.past,
         entries: l.entries,
-        over: (n > KEY) | l.over,
+        over: (n > limits::KEY) | l.over,
     }
 }
 
@@ -123,7 +112,7 @@ pub fn rows(run: &[u32], at: usize) -> Seen
     Seen {
         past: l.past,
         entries: l.entries,
-        over: (n > ROWS) | l.over,
+        over: (n > limits::ROWS) | l.over,
     }
 }
 
@@ -159,7 +148,7 @@ pub fn over_limit(run: &[u32]) -> bool
         over = over | q.over;
         i = i + 1;
     }
-    (n > STATEMENTS) | ((entries > ENTRIES) | over)
+    (n > limits::STATEMENTS) | ((entries > limits::ENTRIES) | over)
 }
 
 // Have the rows at two places the same key?

@@ -8,11 +8,11 @@ ghost use Rattle.policy.specs.Members.{then, Slot, optional, each, oneOr
 ghost use Rattle.policy.specs.Slots.{Placed};
 ghost use Rattle.policy.specs.PolicyLayout.{sidOf, conditionOf, statementOf, sameSid, policyOf};
 ghost use Rattle.policy.specs.Held.{heldText, heldList, heldRow, heldStatement, held};
-ghost use Rattle.policy.specs.Room.{Holdable, HoldableList, HoldableObject};
+ghost use Rattle.policy.specs.Room.{Holdable, HoldableList, HoldableObject, HoldableSlot};
 ghost use Rattle.policy.specs.Spoken.{toldEffect};
 ghost use Rattle.policy.specs.Holding.{Holds, Gathers};
 ghost use Rattle.policy.specs.Statements.{effectTold, partsOf, heldParts};
-ghost use Rattle.policy.specs.Statements.{HoldableSlot, HoldableParts, HoldablePolicy};
+ghost use Rattle.policy.specs.Statements.{HoldableParts, HoldablePolicy};
 use crate::entries;
 use crate::entries::Entry;
 use crate::holding;
@@ -40,7 +40,7 @@ fn effect_number(e: Effect) -> u32
 
 // A Sid that stands at a place, or at 0 none: a text of no characters.
 fn hold_sid_at(s: &[u8], v: usize, run: &mut [u32], at: usize) -> Held
-    requires { ⌜ HoldableSlot (now s) v (now run) at ⌝ }
+    requires { ⌜ HoldableSlot (now s) v (now run) at 1 ⌝ }
     ensures { λ r. ⌜ ((x : Slot) → Placed (now (s .entry)) v x → Holds heldText (now (run .entry)) (now (run .exit)) at (optional [] sidOf x) r) ⌝ }
 {
     if v == 0 {
@@ -52,7 +52,7 @@ fn hold_sid_at(s: &[u8], v: usize, run: &mut [u32], at: usize) -> Held
 
 // A condition that stands at a place, or at 0 none: no rows.
 fn hold_condition_at(s: &[u8], v: usize, run: &mut [u32], at: usize) -> Held
-    requires { ⌜ HoldableSlot (now s) v (now run) at ⌝ }
+    requires { ⌜ HoldableSlot (now s) v (now run) at 1 ⌝ }
     ensures { λ r. ⌜ ((x : Slot) → Placed (now (s .entry)) v x → Holds (heldList heldRow) (now (run .entry)) (now (run .exit)) at (optional [] conditionOf x) r) ⌝ }
 {
     if v == 0 {

@@ -86,16 +86,6 @@ json-room (object ms) e = absurd (not-read e)
 
 -- ---- the run
 
-pub halves-laid :
-    (run run₁ : List ℕ) (at a b : ℕ) → at + 2 ≤ length run → Kept run run₁ at
-    → Extends run (set (set run₁ (at + 1) b) at a) at (a ∷ b ∷ []) (at + 2)
-halves-laid run run₁ at a b room k =
-    let e : at + 2 ≡ at + 1 + 1 = omega arith in
-    let none : Extends run₁ run₁ (at + 1 + 1) [] (at + 2) =
-    subst (λ (i : ℕ). Extends run₁ run₁ (at + 1 + 1) [] i) (sym e) (extends-none run₁ (at + 1 + 1)) in
-    extends-after k
-    (extends-front a (omega (arith, room, k .size)) (extends-front b (omega (arith, room, k .size)) none))
-
 -- ---- the answer
 
 pub number-told : {r : Number} {x : Reading ℕ} {n : ℕ} → toldNumber r ≡ x → r ≡ N.Is n → x ≡ read n
@@ -103,7 +93,3 @@ number-told f e = sym f ∙ ap toldNumber e
 
 pub wrong-told : {r : Number} {x : Reading ℕ} → toldNumber r ≡ x → r ≡ N.Wrong → x ≡ wrong
 wrong-told f e = sym f ∙ ap toldNumber e
-
--- the upper half leaves room for its mark
-pub upper-small : (n : ℕ) → n ≤ greatest → n / 4294967296 < 2097152
-upper-small n h = omega arith

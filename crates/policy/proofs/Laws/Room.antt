@@ -68,19 +68,6 @@ reads-within (comma-object w o x r) = omega (arith, space-low w, space-low x, re
 pub cost-within : {s : List ℕ} {t : Json} {v e : ℕ} → Stands s t v e → v + cost t ≤ e + 1
 cost-within p = reads-within (p .reads)
 
-pub object-cost : {s : List ℕ} {ms : Members} {v e : ℕ} → Stands s (object ms) v e → v + 2 + costm ms ≤ e + 1
-unfolding cost
-object-cost p = let h = cost-within p in omega arith
-
-pub list-cost : {s : List ℕ} {ts : Values} {v e : ℕ} → Stands s (list ts) v e → v + 2 + costs ts ≤ e + 1
-unfolding cost
-list-cost p = let h = cost-within p in omega arith
-
--- the cost of each kind of value
-pub cost-string : (w : List ℕ) → cost (string w) ≡ length w + 3
-unfolding cost
-cost-string w = refl
-
 pub cost-list : (ts : Values) → cost (list ts) ≡ 2 + costs ts
 unfolding cost
 cost-list ts = refl
@@ -88,14 +75,6 @@ cost-list ts = refl
 pub cost-object : (ms : Members) → cost (object ms) ≡ 2 + costm ms
 unfolding cost
 cost-object ms = refl
-
-pub costs-also : (t : Json) (ts : Values) → costs (also t ts) ≡ cost t + costs ts
-unfolding costs
-costs-also t ts = refl
-
-pub costm-named : (w : List ℕ) (t : Json) (ms : Members) → costm (named w t ms) ≡ length w + 3 + cost t + costm ms
-unfolding costm
-costm-named w t ms = refl
 
 pub cost-some : (t : Json) → 1 ≤ cost t
 unfolding cost

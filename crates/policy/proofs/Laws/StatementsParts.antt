@@ -16,9 +16,9 @@ use Rattle.policy.specs.Members.{then, Slot, none, one, many, optional, 
 use Rattle.policy.specs.Slots.{Placed, absent, stands}
 use Rattle.policy.specs.PolicyLayout.{asText, actionOf, resourceOf, sidOf, conditionOf}
 use Rattle.policy.specs.Held.{heldText, heldEach, heldList, heldValue, heldRow}
-use Rattle.policy.specs.Room.{cost, Holdable}
+use Rattle.policy.specs.Room.{cost, Holdable, costOf, HoldableSlot}
 use Rattle.policy.specs.Holding.{Extends, Laid, Left, Holds}
-use Rattle.policy.specs.Statements.{partsOf, heldParts, costOf, HoldableSlot}
+use Rattle.policy.specs.Statements.{partsOf, heldParts}
 use Rattle.policy.specs.declared.holding.Held.{Held}
 use Rattle.policy.specs.declared.holding.Held.the-variants.{Past, Wrong}
 use Rattle.policy.proofs.Laws.Extends.{extends-none, extends-front, extends-then}
@@ -41,7 +41,7 @@ pub placed-there : {s : List ℕ} {v : ℕ} {x : Slot} → Placed s v x → (v �
 placed-there absent n = absurd (n refl)
 placed-there (stands {p} {e} {t} h q) n = record { what = t; stop = e; is = refl; stands = q }
 
-pub there-holdable : {s : List ℕ} {v : ℕ} {run : List ℕ} {at : ℕ} → HoldableSlot s v run at → (v ≡ 0 → ⊥)
+pub there-holdable : {s : List ℕ} {v : ℕ} {run : List ℕ} {at : ℕ} → HoldableSlot s v run at 1 → (v ≡ 0 → ⊥)
     → Holdable s v run at 0
 there-holdable h n =
     let t = placed-there (h .is) n in

@@ -15,7 +15,8 @@ use Rattle.policy.specs.Policy.{Effect, Allow, Deny, Row, Statement}
 use Rattle.policy.specs.Forms.{Reading, wrong, read}
 use Rattle.policy.specs.Members.{then, Slot, none, one, many, slot, known, required}
 use Rattle.policy.specs.Slots.{wordsOf, wordAt, Placed, Turn, Slotted}
-use Rattle.policy.specs.Statements.{effectTold, costOf}
+use Rattle.policy.specs.Room.{costOf}
+use Rattle.policy.specs.Statements.{effectTold}
 use Rattle.policy.specs.Statements as S
 use Rattle.policy.specs.declared.members.Layout.{Layout}
 use Rattle.policy.proofs.Laws.Room.{slotCost}

@@ -16,9 +16,8 @@ use Rattle.policy.specs.Members.{Slot, then, only, each, differ, differi
 use Rattle.policy.specs.RecordLayout.{contextOf, sameContext, contextsOf}
 use Rattle.policy.specs.Held.{heldEach, heldList, heldContext}
 use Rattle.policy.specs.Slots.{Placed}
-use Rattle.policy.specs.Room.{cost, costs, Roomy, HoldableList}
+use Rattle.policy.specs.Room.{cost, costs, Roomy, HoldableList, costOf}
 use Rattle.policy.specs.Holding.{isList, Extends, Laid, Gathered}
-use Rattle.policy.specs.Requests.{valueCost}
 use Rattle.policy.proofs.Laws.Holding.{never}
 use Rattle.policy.proofs.Laws.Room.{cost-list}
 use Rattle.policy.proofs.Laws.Extends.{extends-front}
@@ -106,10 +105,10 @@ module _ {s : List ℕ} {v : ℕ} {x : Slot} (p : Placed s v x) (h : v ≡ 0 →
           contexts-said ∙ limited-is entries cs e
           ∙ ap (λ (b : Bool). only b cs) (le-leb (length cs) mostContext m)
 
-    pub contexts-room : {run : List ℕ} {at : ℕ} → Roomy run at (1 + valueCost x) → HoldableList s v run (at + 1)
+    pub contexts-room : {run : List ℕ} {at : ℕ} → Roomy run at (1 + costOf x) → HoldableList s v run (at + 1)
     contexts-room {run} {at} r =
-        let c : valueCost x ≡ 2 + costs (listed .elements) =
-        ap valueCost (found .is) ∙ ap cost (listed .is) ∙ cost-list (listed .elements) in
+        let c : costOf x ≡ 2 + costs (listed .elements) =
+        ap costOf (found .is) ∙ ap cost (listed .is) ∙ cost-list (listed .elements) in
         record {
           what = listed .elements;
           stop = found .stop;

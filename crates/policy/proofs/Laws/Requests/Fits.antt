@@ -17,10 +17,10 @@ use Rattle.policy.specs.Members.{Slot, none, many, one, only, isWord, ch
 use Rattle.policy.specs.RecordLayout.{onlyOne, short, asNumber, isKeyName, keyNameOf, typedOf, contextOf}
 use Rattle.policy.specs.Held.{heldText, heldValue, heldContext}
 use Rattle.policy.specs.Slots.{wordsOf}
-use Rattle.policy.specs.Room.{cost, costm, Roomy}
+use Rattle.policy.specs.Room.{cost, costm, Roomy, costOf}
 use Rattle.policy.specs.Holding.{Laid}
 use Rattle.policy.specs.declared.members.Layout.the-variants as L
-use Rattle.policy.specs.Requests.{soleOf, valueCost}
+use Rattle.policy.specs.Requests.{soleOf}
 use Rattle.policy.proofs.Laws.Room.{slotCost, slotsCost, layout-room, cost-object}
 use Rattle.policy.proofs.Laws.Fits.{wrong-read, then-inv, only-inv, pick-inv, characters-fit}
 use Rattle.policy.proofs.Laws.Requests.Sole.{theOne, sole-only, sole-cost}
@@ -28,19 +28,19 @@ use Rattle.policy.proofs.Laws.Requests.Context.{contextIn, contextWithi
 
 -- ---- one member
 
-pub slot-value : (n : List ℕ) (x : Slot) → valueCost x ≤ slotCost n x
+pub slot-value : (n : List ℕ) (x : Slot) → costOf x ≤ slotCost n x
 slot-value n none = omega arith
 slot-value n many = omega arith
 slot-value n (one t) = omega arith
 
 -- a member that is there costs its name too
 pub required-cost : {A : Type 0} (f : Json → Reading A) (n : List ℕ) (x : Slot) {a : A} → required f x ≡ read a
-    → length n + 3 + valueCost x ≤ slotCost n x
+    → length n + 3 + costOf x ≤ slotCost n x
 required-cost f n none e = wrong-read e
 required-cost f n many e = wrong-read e
 required-cost f n (one t) e = omega arith
 
-pub key-fit : (x : Slot) (k : List ℕ) → required keyNameOf x ≡ read k → length k + 3 ≤ valueCost x
+pub key-fit : (x : Slot) (k : List ℕ) → required keyNameOf x ≡ read k → length k + 3 ≤ costOf x
 unfolding keyNameOf
 key-fit none k e = wrong-read e
 key-fit many k e = wrong-read e
@@ -55,7 +55,7 @@ sole-fit t none cs h e = wrong-read e
 sole-fit t many cs h e = wrong-read e
 sole-fit t (one u) cs h e = omega (arith, sole-cost t u h, characters-fit u cs e)
 
-pub one-fit : (x : Slot) (cs : List ℕ) → theOne x ≡ read cs → length cs + 3 ≤ valueCost x
+pub one-fit : (x : Slot) (cs : List ℕ) → theOne x ≡ read cs → length cs + 3 ≤ costOf x
 one-fit none cs e = wrong-read e
 one-fit many cs e = wrong-read e
 one-fit (one t) cs e = sole-fit t (soleOf t) cs refl (sym (sole-only charactersOf t) ∙ e)
@@ -130,7 +130,7 @@ module _ {run : List ℕ} {at : ℕ} (t : Json) (room : Roomy run at (0 + cost t
   enough : here ≤ length run
   enough = omega (arith, room .room, ap cost is ∙ cost-object ms)
 
-  pub key-room : Roomy run (at + 1) (0 + valueCost (slot contextKeyNameWord ms))
+  pub key-room : Roomy run (at + 1) (0 + costOf (slot contextKeyNameWord ms))
   key-room =
       record {
         room = omega (arith, enough, context-room ms, slot-value contextKeyNameWord (slot contextKeyNameWord ms));
@@ -143,7 +143,7 @@ module _ {run : List ℕ} {at : ℕ} (t : Json) (room : Roomy run at (0 + cost t
   pub value-room :
       {run₁ : List ℕ} {p : ℕ} (k : ℕ) → Laid heldText run run₁ (at + 1) (required keyNameOf
       (slot contextKeyNameWord ms)) p
-      → Roomy (set run₁ at k) p (0 + valueCost (slot contextKeyValuesWord ms))
+      → Roomy (set run₁ at k) p (0 + costOf (slot contextKeyValuesWord ms))
   value-room {run₁} {p} k d =
       record {
         room = omega (

@@ -55,6 +55,3 @@ module _ {run : List ℕ} {p : ℕ} (x : Context) (l : Lies run p (heldContext x
   context-text e =
       let k = text-size (x .value) (λ z. e (context-type ∙ z)) (context-named .rest) in
       (omega (arith, k, value-room), context-past (place + 1 + getD run place 0) (omega (arith, k)))
-
-  pub context-bounded : length run ≤ runNumbers
-  context-bounded = l .bounded

@@ -10,23 +10,22 @@ use Rattle.policy.specs.Words.{actionNamesWord, resourceArnsWord, contex
 use Rattle.policy.specs.Members.{Slot, none, many, one, only, slot}
 use Rattle.policy.specs.RecordLayout.{onlyOne, isActionName, actionNameOf, isResourceArn}
 use Rattle.policy.specs.Held.{heldText}
-use Rattle.policy.specs.Room.{cost, costm, Roomy}
+use Rattle.policy.specs.Room.{cost, costm, Roomy, costOf}
 use Rattle.policy.specs.Holding.{Laid}
 use Rattle.policy.specs.declared.members.Layout.the-variants as L
-use Rattle.policy.specs.Requests.{valueCost}
 use Rattle.policy.proofs.Laws.Room.{slotCost, slotsCost, layout-room, cost-object}
 use Rattle.policy.proofs.Laws.Fits.{wrong-read, then-inv, only-inv}
 use Rattle.policy.proofs.Laws.Requests.Sole.{theOne, action-name-said, resource-arn-said}
 use Rattle.policy.proofs.Laws.Requests.Fits.{slot-value, required-cost, one-fit}
 use Rattle.policy.proofs.Laws.Requests.Record.{actionIn, resourceIn}
 
-action-fit : (x : Slot) (a : List ℕ) → actionIn x ≡ read a → length a + 3 ≤ valueCost x
+action-fit : (x : Slot) (a : List ℕ) → actionIn x ≡ read a → length a + 3 ≤ costOf x
 action-fit x a e =
     let p = then-inv (theOne x) (λ cs. only (isActionName cs) cs) (sym (action-name-said x) ∙ e) in
     let q = only-inv (isActionName (p .thing)) (p .next) in
     omega (arith, ap length q, one-fit x (p .thing) (p .said))
 
-resource-fit : (y : Slot) (r : List ℕ) → resourceIn y ≡ read r → length r ≤ 1 + valueCost y
+resource-fit : (y : Slot) (r : List ℕ) → resourceIn y ≡ read r → length r ≤ 1 + costOf y
 resource-fit none r e = let z : 42 ∷ [] ≡ r = cc in omega (arith, ap length z)
 resource-fit many r e = wrong-read e
 resource-fit (one t) r e =
@@ -54,7 +53,7 @@ module _ {run : List ℕ} (t : Json) (room : Roomy run 0 (0 + cost t)) (ms : Mem
   enough : 2 + costm ms ≤ length run
   enough = omega (arith, room .room, ap cost is ∙ cost-object ms)
 
-  pub action-room : Roomy run 0 (0 + valueCost x)
+  pub action-room : Roomy run 0 (0 + costOf x)
   action-room =
       record {
         room = omega (arith, enough, record-room ms, slot-value actionNamesWord x);
@@ -73,7 +72,7 @@ module _ {run : List ℕ} (t : Json) (room : Roomy run 0 (0 + cost t)) (ms : Mem
           a .extends .place,
         )
 
-    pub resource-room : Roomy run₁ p (2 + valueCost y)
+    pub resource-room : Roomy run₁ p (2 + costOf y)
     resource-room =
         record {
           room = omega (arith, action-paid, slot-value resourceArnsWord y, a .extends .size);
@@ -81,7 +80,7 @@ module _ {run : List ℕ} (t : Json) (room : Roomy run 0 (0 + cost t)) (ms : Mem
         }
 
     pub contexts-room : {run₂ : List ℕ} {q : ℕ} → Laid heldText run₁ run₂ p (resourceIn y) q
-        → Roomy run₂ q (1 + valueCost z)
+        → Roomy run₂ q (1 + costOf z)
     contexts-room b =
         record {
           room = omega (

@@ -13,10 +13,10 @@ use Rattle.policy.specs.Members.{Slot, none, many, one, then, characters
 use Rattle.policy.specs.RecordLayout.{onlyOne, isActionName, actionNameOf, isResourceArn, resourceArnOf}
 use Rattle.policy.specs.RecordLayout.{isKeyName, keyNameOf}
 use Rattle.policy.specs.Slots.{Placed, stands}
-use Rattle.policy.specs.Room.{cost, costs}
+use Rattle.policy.specs.Room.{cost, costs, costOf}
 use Rattle.policy.specs.Holding.{isList}
 use Rattle.policy.specs.declared.holding.Held.the-variants.{Past}
-use Rattle.policy.specs.Requests.{soleOf, valueCost}
+use Rattle.policy.specs.Requests.{soleOf}
 use Rattle.policy.proofs.Laws.Holding.{never}
 use Rattle.policy.proofs.Laws.Formed.{formed}
 use Rattle.policy.proofs.Laws.Requests.Members.{placed-absent, Found, placed-found}
@@ -178,9 +178,9 @@ module _ {s : List ℕ} {v : ℕ} {x : Slot} (p : Placed s v x) where
         ap theOne (found .is) ∙ sole-only charactersOf (found .what)
         ∙ ap (required charactersOf) (one-found n .is)
 
-    pub one-cost : (n : i ≡ 0 → ⊥) → cost (one-found n .what) ≤ valueCost x
+    pub one-cost : (n : i ≡ 0 → ⊥) → cost (one-found n .what) ≤ costOf x
     one-cost n =
-        omega (arith, sole-cost (found .what) (one-found n .what) (one-found n .is), ap valueCost (found .is))
+        omega (arith, sole-cost (found .what) (one-found n .what) (one-found n .is), ap costOf (found .is))
 
 -- ---- a resource that is given, a key that is given
 

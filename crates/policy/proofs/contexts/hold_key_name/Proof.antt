@@ -4,7 +4,7 @@ use native.Mathlib.Omega.{arith}
 use borrow.Author.Tests.{not-true, not-false}
 use Rattle.policy.specs.Members.{charactersOf, required}
 use Rattle.policy.specs.RecordLayout.{isKeyName, keyNameOf}
-use Rattle.policy.specs.Requests.{valueCost}
+use Rattle.policy.specs.Room.{costOf}
 use Rattle.policy.specs.Held.{heldText}
 use Rattle.policy.proofs.Laws.Room.{roomy-less}
 use Rattle.policy.proofs.Laws.Formed.{holds-past, past-first, past-within, part-told, formed-no, formed-yes}
@@ -27,7 +27,7 @@ hold-text-requires c κs =
       stop = f .stop;
       is = f .at;
       roomy = roomy-less (start .pre .roomy) refl (omega
-          (arith, ap valueCost (f .is)));
+          (arith, ap costOf (f .is)));
     }
 
 enum-known-h : tie.Need-enum-known-h

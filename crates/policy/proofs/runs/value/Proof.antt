@@ -25,9 +25,12 @@ cast-t9 c = search needs
 add-t10 : tie.Need-add-t10
 add-t10 c = search needs
 
+cast-t11 : tie.Need-cast-t11
+cast-t11 c = search needs
+
 returns-2 : tie.Need-returns-2
 returns-2 c = λ x l. text-passes x l (c .if1 .left)
 
 pub value-spec : {M : Type 1} → statement M
 value-spec =
-    tie.close (tie.spec mul-n shared-slice-read-n add-t8 returns add-t4 cast-t9 add-t10 returns-2)
+    tie.close (tie.spec mul-n shared-slice-read-n add-t8 returns add-t4 cast-t9 add-t10 cast-t11 returns-2)

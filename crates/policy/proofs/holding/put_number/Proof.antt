@@ -4,8 +4,8 @@ use Prim.Native.Nat.{_%_, _+_}
 use lib.ListN.{length-set}
 use Rattle.policy.proofs.Laws.Requests.Laying.{extends-two}
 use borrow.Author.Needs.{needs}
-use Rattle.policy.proofs.contexts.put_number.Statement.{statement}
-use Rattle.policy.proofs.contexts.put_number.Tie as tie
+use Rattle.policy.proofs.holding.put_number.Statement.{statement}
+use Rattle.policy.proofs.holding.put_number.Tie as tie
 
 cast-run : tie.Need-cast-run
 cast-run c = search needs
