@@ -36,3 +36,7 @@ pub mod Statements
 pub mod StatementsApart
 pub mod StatementsPolicy
 pub mod Requests
+pub mod Matching
+pub mod MatchingPlaces
+pub mod MatchingSteps
+pub mod MatchingTrials

@@ -17,3 +17,4 @@ pub mod Holding
 pub mod Statements
 pub mod Requests
 pub mod Spoken
+pub mod Matching

@@ -4,6 +4,7 @@ pub mod entries;
 pub mod forms;
 pub mod holding;
 pub mod limits;
+pub mod matching;
 pub mod members;
 pub mod reading;
 pub mod refusals;
