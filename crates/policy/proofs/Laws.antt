@@ -20,6 +20,7 @@ pub mod Differ
 pub mod Sofar
 pub mod Several
 pub mod Gathering
+pub mod Apart
 pub mod Collecting
 pub mod Rows
 pub mod Groups
@@ -33,7 +34,6 @@ pub mod RunsStatement
 pub mod StatementsParts
 pub mod StatementsRead
 pub mod Statements
-pub mod StatementsApart
 pub mod StatementsPolicy
 pub mod Requests
 pub mod Matching

@@ -7,7 +7,6 @@ pub mod Lying
 pub mod Objects
 pub mod Context
 pub mod Fits
-pub mod Differing
 pub mod Contexts
 pub mod Record
 pub mod Paid

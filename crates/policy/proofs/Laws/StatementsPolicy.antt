@@ -33,7 +33,6 @@ use Rattle.policy.proofs.Laws.Fits.{then-inv, only-inv, cons-inv}
 use Rattle.policy.proofs.Laws.StatementsParts.{There, placed-absent, placed-there}
 use Rattle.policy.proofs.Laws.StatementsRead.{not-read, both-ways, pick-no, pick-wrong, pick-yes, right, turn-of}
 use Rattle.policy.proofs.Laws.StatementsRead.{required-none}
-use Rattle.policy.proofs.Laws.StatementsApart.{apartOf}
 
 -- ---- one statement
 
@@ -63,6 +62,10 @@ single-laid {run} {run′} {p} t e low d =
     }
 
 -- ---- a list
+
+-- the statements of a list, if no two have the same Sid
+abbrev pub apartOf : Values → Reading (List Statement)
+apartOf ts = then (each statementOf ts) (differing sameSid)
 
 apart-some : (ts : Values) (xs : List Statement) → apartOf ts ≡ read xs → (length xs ≡ 0 → ⊥)
     → then (some statementOf ts) (differing sameSid) ≡ read xs

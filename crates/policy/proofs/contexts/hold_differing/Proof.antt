@@ -8,8 +8,8 @@ use Rattle.policy.proofs.Laws.Differ.{sameContext-symmetric}
 use Rattle.policy.proofs.Laws.Gathering.{elementLeft, next-holdable, next-standing, next-resting, next-few}
 use Rattle.policy.proofs.Laws.Gathering.{gathering-less}
 use Rattle.policy.proofs.Laws.Requests.Fits.{context-fits}
-use Rattle.policy.proofs.Laws.Requests.Differing.{Apart, apart-start, apart-end, after, apart-wrong, one-lies}
-use Rattle.policy.proofs.Laws.Requests.Differing.{many-lie, apart-alike, apart-more}
+use Rattle.policy.proofs.Laws.Apart.{Apart, apart-start, apart-end, after, apart-wrong, one-lies}
+use Rattle.policy.proofs.Laws.Apart.{many-lie, apart-alike, apart-more}
 use borrow.Author.Needs.{needs}
 use Rattle.policy.proofs.contexts.hold_differing.Statement.{statement}
 use Rattle.policy.proofs.contexts.hold_differing.Tie as tie

@@ -1,19 +1,21 @@
 -- Each turn holds one statement behind those before it, unless one of them has its Sid, or ends the walk.
 use mathlib.Core.Path.{sym, _∙_}
-use Rattle.policy.specs.PolicyLayout.{statementOf}
+use Rattle.policy.specs.PolicyLayout.{statementOf, sameSid}
 use Rattle.policy.specs.Held.{heldStatement}
 use Rattle.policy.proofs.Laws.Formed.{holds-past, holds-wrong}
 use Rattle.policy.proofs.Laws.FitsPolicy.{statement-fits}
 use Rattle.policy.proofs.Laws.Gathering.{elementLeft, next, next-holdable, next-standing, next-resting, next-few}
 use Rattle.policy.proofs.Laws.Gathering.{gathering-less}
-use Rattle.policy.proofs.Laws.StatementsApart.{Apart, apart-start, apart-end, apart-wrong, before-lies, new-lies}
-use Rattle.policy.proofs.Laws.StatementsApart.{before-lying, new-lying, apart-twice, apart-more}
+use Rattle.policy.proofs.Laws.Differ.{sameSid-symmetric}
+use Rattle.policy.proofs.Laws.Apart.{Apart, apart-start, apart-end, apart-wrong, many-lie, one-lies, apart-lying}
+use Rattle.policy.proofs.Laws.Apart.{apart-alike, apart-more}
 use borrow.Author.Needs.{needs}
 use Rattle.policy.proofs.statements.hold_statements.Statement.{statement}
 use Rattle.policy.proofs.statements.hold_statements.Tie as tie
 
 abbrev Inv-loop : tie.InvT-loop
-Inv-loop s v run₀ at m₀ p₀ n₀ run m p n = Apart s v run₀ at run m p n
+Inv-loop s v run₀ at m₀ p₀ n₀ run m p n =
+    Apart heldStatement statementOf statement-fits sameSid sameSid-symmetric s v run₀ at run m p n
 
 abbrev μ-loop : tie.MeasureT-loop
 μ-loop s v run₀ at m₀ p₀ n₀ run m p n = elementLeft s m
@@ -26,7 +28,8 @@ first-element-requires c κs =
 loop-holds : tie.Need-loop-holds Inv-loop μ-loop
 loop-holds c =
     let pre = c .before .before .before .pre in
-    apart-start pre _ (c .first-element .ensures _ _ (pre .is))
+    apart-start heldStatement statementOf statement-fits sameSid sameSid-symmetric pre _
+    (c .first-element .ensures _ _ (pre .is))
 
 enum-known-m : tie.Need-enum-known-m Inv-loop μ-loop
 enum-known-m c = search needs
@@ -86,7 +89,7 @@ has-sid-requires c κs =
     let here = next heldStatement statementOf statement-fits g _ m in
     let hold = c .before .before .before .before .before .before .hold-statement .ensures _ _ (here .stands) in
     let d = holds-past heldStatement _ _ _ _ hold (c .before .before .h .given .1) in
-    (before-lying inv _ m d, new-lying inv _ m d)
+    apart-lying inv _ m d
 
 same-length-3 : tie.Need-same-length-3 Inv-loop μ-loop
 same-length-3 c =
@@ -110,8 +113,8 @@ returns-3 c =
     let hold = c .before .before .before .before .before .before .before .before .hold-statement .ensures _ _
     (here .stands) in
     let d = holds-past heldStatement _ _ _ _ hold (c .before .before .before .before .h .given .1) in
-    let like = sym (c .before .has-sid .ensures _ _ (g .count) (before-lies inv _ m d) (new-lies inv _ m d)) in
-    apart-twice inv _ m d (like ∙ c .if1 .taken)
+    let like = sym (c .before .has-sid .ensures _ _ (g .count) (many-lie inv _ m d) (one-lies inv _ m d)) in
+    apart-alike inv _ m d (like ∙ c .if1 .taken)
 
 add-n : tie.Need-add-n Inv-loop μ-loop
 add-n c =
@@ -164,8 +167,8 @@ loop-again c =
     .ensures _ _ (here .stands) in
     let d = holds-past heldStatement _ _ _ _ hold (c .before .before .before .before .before .before .h .given .1) in
     let end = c .before .past-value .ensures _ _ (here .stands) in
-    let like = sym (c .before .before .before .has-sid .ensures _ _ (g .count) (before-lies inv _ m d)
-    (new-lies inv _ m d)) in
+    let like = sym (c .before .before .before .has-sid .ensures _ _ (g .count) (many-lie inv _ m d)
+    (one-lies inv _ m d)) in
     apart-more inv _ m d (like ∙ c .before .before .if1 .left) _ _ end (c .next-element .ensures)
 
 pub hold-statements-spec : {M : Type 1} → statement M

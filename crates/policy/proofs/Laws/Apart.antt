@@ -1,7 +1,7 @@
 -- Things gathered from a list's elements, no two of them alike.
-use mathlib.Core.Path.{_≡_, refl, sym, ap, _∙_}
+use mathlib.Core.Path.{_≡_, ap, _∙_}
 use mathlib.Core.Bool.{Bool, true, false}
-use mathlib.Core.List.{List, _∷_, _++_}
+use mathlib.Core.List.{List, _++_}
 use Prim.Native.Nat.{ℕ, _+_, _≤_}
 use native.Mathlib.Omega.{arith}
 use lib.ListN.{length}
@@ -9,23 +9,22 @@ use Rattle.text.specs.Json.{Json, list, Values}
 use Rattle.text.specs.Contents.{Stands, Rest, Comes, First}
 use Rattle.text.specs.declared.walk.Element.{Element}
 use Rattle.text.specs.declared.walk.Element.the-variants as E
-use Rattle.text.proofs.Laws.Contents.{stands-unique}
-use Rattle.policy.specs.Forms.{Reading, wrong, read}
-use Rattle.policy.specs.Members.{then, only, cons, each, hasLike, differ, differing}
+use Rattle.policy.specs.Forms.{Reading, read}
+use Rattle.policy.specs.Members.{then, each, hasLike, differ, differing}
 use Rattle.policy.specs.Held.{heldEach}
 use Rattle.policy.specs.Room.{cost, HoldableList}
-use Rattle.policy.specs.Lying.{Lies}
-use Rattle.policy.specs.Holding.{Laid, Left, Gathered}
+use Rattle.policy.specs.Lying.{Lies, Lying, LyingMany}
+use Rattle.policy.specs.Holding.{Extends, Laid, Left, Gathered}
 use Rattle.policy.proofs.Laws.Extends.{extends-then, extends-lies, extends-within}
-use Rattle.policy.proofs.Laws.Formed.{then-wrong, then-read}
+use Rattle.policy.proofs.Laws.Formed.{left-then}
 use Rattle.policy.proofs.Laws.Runs.{lies-front}
-use Rattle.policy.proofs.Laws.Differ.{differ-snoc, differ-broken}
-use Rattle.policy.proofs.Laws.Sofar.{prefixed}
-use Rattle.policy.proofs.Laws.Gathering.{Gathering, gathering-start, gathering-end, next, next-wrong}
-use Rattle.policy.proofs.Laws.Gathering.{gathering-more, start-things, end-things, more-things}
+use Rattle.policy.proofs.Laws.Differ.{differ-snoc}
+use Rattle.policy.proofs.Laws.Sofar.{sofar-same, twice-wrong, apart-read}
+use Rattle.policy.proofs.Laws.Gathering.{Gathering, gathering-start, gathering-read, whole-told, next, next-each}
+use Rattle.policy.proofs.Laws.Gathering.{next-wrong, gathering-more, start-things, more-things}
 
 -- where no two are alike
-abbrev distinctly : {A : Type 0} → (A → A → Bool) → Reading (List A) → Reading (List A)
+abbrev pub distinctly : {A : Type 0} → (A → A → Bool) → Reading (List A) → Reading (List A)
 distinctly like y = then y (differing like)
 
 module _ {A : Type 0} (h : A → List ℕ) (f : Json → Reading A)
@@ -41,14 +40,6 @@ module _ {A : Type 0} (h : A → List ℕ) (f : Json → Reading A)
   apart-start p m c =
       record { gathering = gathering-start h f fits p m c; apart = ap (differ like) (start-things h f fits p m c) }
 
--- a thing like one before it
-alike-wrong : {A : Type 0} (like : A → A → Bool) → ((x y : A) → like x y ≡ like y x) → (xs : List A) (x : A)
-    (y : Reading (List A)) → hasLike like x xs ≡ true
-    → distinctly like (prefixed xs (cons (read x) y)) ≡ wrong
-alike-wrong like symmetric xs x wrong e = refl
-alike-wrong like symmetric xs x (read ys) e =
-    ap (λ (b : Bool). only b (xs ++ (x ∷ ys))) (differ-broken like symmetric xs x ys e)
-
 module _ {A : Type 0} {h : A → List ℕ} {f : Json → Reading A}
     {fits : (t : Json) (x : A) → f t ≡ read x → length (h x) ≤ cost t} {like : A → A → Bool}
     {symmetric : (x y : A) → like x y ≡ like y x} {s : List ℕ} {v at : ℕ} {run₀ run : List ℕ} {m : Element} {p n : ℕ}
@@ -57,24 +48,20 @@ module _ {A : Type 0} {h : A → List ℕ} {f : Json → Reading A}
   state = g .gathering
 
   -- of whatever list stands there
-  whole-is : (ts : Values) (e : ℕ) → Stands s (list ts) v e
-      → distinctly like (each f ts) ≡ distinctly like (each f (state .whole))
-  whole-is ts e l =
-      let z : list (state .whole) ≡ list ts = stands-unique (state .list-is) l in
-      let y : state .whole ≡ ts = cc in
-      ap (λ (us : Values). distinctly like (each f us)) (sym y)
+  abbrev told : (P : Values → Type 0) → P (state .whole) → (ts : Values) (e : ℕ) → Stands s (list ts) v e → P ts
+  told = whole-told h f fits state
 
   pub apart-end : (q : ℕ) → m ≡ E.Past q → (ts : Values) (e : ℕ) → Stands s (list ts) v e
       → Gathered h run₀ run at (distinctly like (each f ts)) p n
-  apart-end q k ts e l =
-      let w = gathering-end h f fits state q k in
-      record {
-        things = w .things;
-        said = whole-is ts e l ∙ then-read (differing like) (w .said)
-            ∙ ap (λ (b : Bool). only b (w .things)) (ap (differ like) (end-things h f fits state q k) ∙ g .apart);
-        count = w .count;
-        extends = w .extends;
-      }
+  apart-end q k =
+      told (λ ts. Gathered h run₀ run at (distinctly like (each f ts)) p n)
+      (record {
+        things = state .things;
+        said = apart-read like symmetric (each f (state .whole)) (state .things) (gathering-read h f fits state q k)
+            (g .apart);
+        count = state .count;
+        extends = state .sofar .extends;
+      })
 
   module _ (i : ℕ) (q : m ≡ E.At i) where
     abbrev pub after : First s (state .low) (state .left) (state .stop) i
@@ -82,39 +69,45 @@ module _ {A : Type 0} {h : A → List ℕ} {f : Json → Reading A}
 
     pub apart-wrong : {run′ : List ℕ} → Left run run′ (f (after .head)) → (ts : Values) (e : ℕ) → Stands s (list ts) v e
         → Left run₀ run′ (distinctly like (each f ts))
-    apart-wrong w ts e l =
-        let y = next-wrong h f fits state i q w in
-        record { size = y .size; said = whole-is ts e l ∙ then-wrong (differing like) (y .said) }
+    apart-wrong {run′} w =
+        told (λ ts. Left run₀ run′ (distinctly like (each f ts)))
+        (left-then (differing like) (next-wrong h f fits state i q w))
 
     module _ {run′ : List ℕ} {p′ : ℕ} (d : Laid h run run′ p (f (after .head)) p′) where
-      bounded : length run ≤ 16384
-      bounded = omega (arith, state .sofar .bounded, state .sofar .extends .size)
+      all : Extends run₀ run′ at (heldEach h (state .things) ++ h (d .thing)) p′
+      all = extends-then (state .sofar .extends) (d .extends)
 
-      low : p ≤ length run
-      low = extends-within (state .sofar .extends) (state .sofar .starts)
-
+      -- the new thing and those before it lie in the run
       pub one-lies : Lies run′ p (h (d .thing))
-      one-lies = extends-lies (d .extends) low bounded
+      one-lies =
+          extends-lies (d .extends) (extends-within (state .sofar .extends) (state .sofar .starts))
+          (omega (arith, state .sofar .bounded, state .sofar .extends .size))
 
       pub many-lie : Lies run′ at (heldEach h (state .things))
       many-lie =
           lies-front (heldEach h (state .things)) (h (d .thing))
-          (extends-lies (extends-then (state .sofar .extends) (d .extends)) (state .sofar .starts)
-          (state .sofar .bounded))
+          (extends-lies all (state .sofar .starts) (state .sofar .bounded))
 
-      each-next : each f (state .left) ≡ cons (read (d .thing)) (each f (after .tail))
-      unfolding each
-      each-next =
-          ap (each f) (after .is) ∙ ap (λ (x : Reading A). cons x (each f (after .tail))) (d .said)
+      pub apart-lying : (LyingMany h run′ at n) × (Lying h run′ p)
+      apart-lying = (
+        record { things = state .things; count = state .count; lies = many-lie },
+        record { thing = d .thing; lies = one-lies },
+      )
+
+      pub apart-size : length run′ ≡ length run₀
+      apart-size = all .size
 
       pub apart-alike : hasLike like (d .thing) (state .things) ≡ true → (ts : Values) (e : ℕ) → Stands s (list ts) v e
           → Left run₀ run′ (distinctly like (each f ts))
-      apart-alike a ts e l =
-          record {
-            size = d .extends .size ∙ state .sofar .extends .size;
-            said = whole-is ts e l ∙ ap (distinctly like) (state .sofar .same ∙ ap (prefixed (state .things)) each-next)
-                ∙ alike-wrong like symmetric (state .things) (d .thing) (each f (after .tail)) a;
-          }
+      apart-alike a =
+          let rest = each f (after .tail) in
+          told (λ ts. Left run₀ run′ (distinctly like (each f ts)))
+          (record {
+            size = apart-size;
+            said = twice-wrong like symmetric (each f (state .whole)) rest (state .things) (d .thing)
+                (sofar-same h (state .sofar) (f (after .head)) rest (next-each h f fits state i q) (d .thing)
+                (d .said)) a;
+          })
 
       pub apart-more : hasLike like (d .thing) (state .things) ≡ false → (m′ : Element) (e : ℕ) → e ≡ after .stop
           → ((ts : Values) (y : ℕ) → Rest s ts e y → Comes s e ts y m′)
