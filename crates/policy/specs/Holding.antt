@@ -17,7 +17,7 @@ use Rattle.policy.specs.PolicyLayout.{asText, actionOf, resourceOf, valu
 use Rattle.policy.specs.Held.{heldEach}
 use Rattle.policy.specs.Spoken.{operatorIs}
 use Rattle.policy.specs.Told.{toldNumber}
-use Rattle.policy.specs.declared.forms.Number.{Number}
+use Rattle.policy.specs.declared.numbers.Number.{Number}
 use Rattle.policy.specs.declared.holding.Held.{Held}
 use Rattle.policy.specs.declared.holding.Held.the-variants as H
 use Rattle.policy.specs.declared.holding.Counted.{Counted}

@@ -11,12 +11,12 @@ use lib.Dec.{leb}
 use lib.ListN.{length, getD, drop}
 use Rattle.text.specs.Base.{pick, within}
 use Rattle.text.specs.Putting.{lay}
-use Rattle.policy.specs.declared.forms.Number.{Number}
-use Rattle.policy.specs.declared.forms.Number.the-variants as N
-use Rattle.policy.specs.declared.forms.Converted.{Converted}
-use Rattle.policy.specs.declared.forms.Converted.the-variants as C
-use Rattle.policy.specs.declared.forms.Step.{Step}
-use Rattle.policy.specs.declared.forms.Step.the-variants as S
+use Rattle.policy.specs.declared.numbers.Number.{Number}
+use Rattle.policy.specs.declared.numbers.Number.the-variants as N
+use Rattle.policy.specs.declared.symbols.Converted.{Converted}
+use Rattle.policy.specs.declared.symbols.Converted.the-variants as C
+use Rattle.policy.specs.declared.symbols.Step.{Step}
+use Rattle.policy.specs.declared.symbols.Step.the-variants as S
 use Rattle.policy.specs.Limits.{greatest}
 use Rattle.policy.specs.Forms.{Reading, wrong, read, both, ahead, symbolsOf}
 

@@ -15,13 +15,14 @@ ghost use Rattle.policy.specs.Lying.{Lies, Lying, LyingMany};
 ghost use Rattle.policy.specs.Holding.{Extends, Holds, Gathers};
 ghost use Rattle.policy.specs.Requests.{Placing, typeOf, typedAs};
 use crate::forms;
-use crate::forms::Number;
 use crate::holding;
 use crate::holding::Counted;
 use crate::holding::Held;
 use crate::limits;
 use crate::members;
 use crate::members::Layout;
+use crate::numbers;
+use crate::numbers::Number;
 use crate::sole;
 use crate::words;
 use text::walk;
@@ -87,7 +88,7 @@ fn hold_typed(s: &[u8], v: usize, run: &mut [u32], at: usize, kind: u32) -> Held
         }
         return Held::Past(p);
     }
-    let k = forms::number_in(&run[first..p]);
+    let k = numbers::number_in(&run[first..p]);
     let Number::Is(n) = k else {
         return Held::Wrong;
     };

@@ -10,11 +10,13 @@ ghost use Rattle.policy.specs.Held.{heldText, heldNumber, heldValue, hel
 ghost use Rattle.policy.specs.Room.{Roomy, Holdable, HoldableList};
 ghost use Rattle.policy.specs.Holding.{Holds, Gathers, Finds, entryOf};
 use crate::forms;
-use crate::forms::Converted;
-use crate::forms::Number;
 use crate::holding;
 use crate::holding::Counted;
 use crate::holding::Held;
+use crate::numbers;
+use crate::numbers::Number;
+use crate::symbols;
+use crate::symbols::Converted;
 use crate::words::Operator;
 use text::walk;
 use text::walk::Element;
@@ -70,7 +72,7 @@ fn hold_action(s: &[u8], v: usize, run: &mut [u32], at: usize) -> Held
     if !forms::is_action(&run[first..p]) {
         return Held::Wrong;
     }
-    forms::wildcards(&mut run[first..p]);
+    symbols::wildcards(&mut run[first..p]);
     Held::Past(p)
 }
 
@@ -84,7 +86,7 @@ fn hold_symbols(s: &[u8], v: usize, run: &mut [u32], at: usize, wild: bool) -> H
         return Held::Wrong;
     };
     let first = at + 1;
-    let c = forms::symbols(&mut run[first..p], wild);
+    let c = symbols::symbols(&mut run[first..p], wild);
     let Converted::Count(n) = c else {
         return Held::Wrong;
     };
@@ -114,14 +116,14 @@ fn number_at(s: &[u8], v: usize, run: &mut [u32], at: usize) -> Number
 {
     if holding::is_number(walk::kind_at(s, v)) {
         let e = walk::past_value(s, v);
-        return forms::number_spelt(&s[v..e]);
+        return numbers::number_spelt(&s[v..e]);
     }
     let h = holding::hold_text(s, v, run, at);
     let Held::Past(p) = h else {
         return Number::Wrong;
     };
     let first = at + 1;
-    forms::number_in(&run[first..p])
+    numbers::number_in(&run[first..p])
 }
 
 fn hold_number(s: &[u8], v: usize, run: &mut [u32], at: usize) -> Held

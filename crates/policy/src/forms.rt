@@ -1,32 +1,11 @@
-// Forms of texts: what decoded characters are, and what they say.
+// Forms of texts: what decoded characters are.
 ghost use mathlib.Core.Path.{_≡_};
-ghost use mathlib.Core.List.{[], _∷_, map};
-ghost use Prim.Native.Nat.{_<_, _≤_};
+ghost use mathlib.Core.List.{[], _∷_};
+ghost use Prim.Native.Nat.{_≤_};
 ghost use lib.ListN.{length, getD, drop};
-ghost use Rattle.policy.specs.Limits.{greatest};
 ghost use Rattle.policy.specs.Forms.{same, isAlphanumeric, isVendorChar, isNameChar, isName, isVendor, isAction};
-ghost use Rattle.policy.specs.Forms.{wildcard, colons, isArn, isResource, isSid, isKeyChar, isKey};
-ghost use Rattle.policy.specs.Forms.{symbol, symbolsOf, numberIn, lower, sameKey};
-ghost use Rattle.policy.specs.Told.{toldNumber, withDigit, isRead, Opened, Says, converted};
+ghost use Rattle.policy.specs.Forms.{colons, isArn, isResource, isSid, isKeyChar, isKey, lower, sameKey};
 use crate::limits;
-
-// A number; or the characters are none.
-pub enum Number {
-    Is(u64),
-    Wrong,
-}
-
-// So many symbols; or an escape is none of the three.
-pub enum Converted {
-    Count(usize),
-    Wrong,
-}
-
-// What stands at a place: a symbol and the place behind what says it; or an escape that is none of the three.
-enum Step {
-    Symbol { c: u32, past: usize },
-    Wrong,
-}
 
 // They stand for * and ? where these are wildcards; no character has these numbers.
 pub const STAR: u32 = 1114112;
@@ -211,102 +190,8 @@ pub fn same_key(a: &[u32], b: &[u32]) -> bool
     true
 }
 
-// One digit more behind those that made n. The test keeps n small enough for the next product.
-fn with_digit(n: u64, c: u32) -> Number
-    requires { ⌜ n ≤ greatest ⌝ }
-    ensures { λ r. ⌜ toldNumber r ≡ withDigit n c ⌝ }
-{
-    match c {
-        48..=57 => {
-            let m = n * 10 + (c - 48) as u64;
-            if m <= limits::GREATEST {
-                Number::Is(m)
-            } else {
-                Number::Wrong
-            }
-        }
-        _ => Number::Wrong,
-    }
-}
-
-pub fn number_in(cs: &[u32]) -> Number
-    ensures { λ r. ⌜ toldNumber r ≡ numberIn (now (cs .entry)) ⌝ }
-{
-    if cs.len() == 0 {
-        return Number::Wrong;
-    }
-    if cs[0] == 48 {
-        if cs.len() == 1 {
-            return Number::Is(0);
-        }
-        return Number::Wrong;
-    }
-    let mut n = 0;
-    let mut i = 0;
-    while i < cs.len() {
-        let Number::Is(m) = with_digit(n, cs[i]) else {
-            return Number::Wrong;
-        };
-        n = m;
-        i += 1;
-    }
-    Number::Is(n)
-}
-
-fn wide(b: u8) -> u32
-    ensures { λ r. ⌜ r ≡ b ⌝ }
-{
-    b as u32
-}
-
-// The same for the bytes of a JSON number.
-pub fn number_spelt(w: &[u8]) -> Number
-    ensures { λ r. ⌜ toldNumber r ≡ numberIn (now (w .entry)) ⌝ }
-{
-    if w.len() == 0 {
-        return Number::Wrong;
-    }
-    if w[0] == 48 {
-        if w.len() == 1 {
-            return Number::Is(0);
-        }
-        return Number::Wrong;
-    }
-    let mut n = 0;
-    let mut i = 0;
-    while i < w.len() {
-        let Number::Is(m) = with_digit(n, wide(w[i])) else {
-            return Number::Wrong;
-        };
-        n = m;
-        i += 1;
-    }
-    Number::Is(n)
-}
-
-fn wildcard(c: u32) -> u32
-    ensures { λ r. ⌜ r ≡ wildcard c ⌝ }
-{
-    match c {
-        42 => STAR,
-        63 => ANY,
-        _ => c,
-    }
-}
-
-// The * and ? of an action become wildcards.
-pub fn wildcards(run: &mut [u32])
-    ensures { λ r. ⌜ now (run .exit) ≡ map wildcard (now (run .entry)) ⌝ }
-{
-    let mut i = 0;
-    while i < run.len() {
-        run[i] = wildcard(run[i]);
-        i += 1;
-    }
-}
-
 // The character k places behind place i, 0 past the end; the difference keeps the sum from wrapping.
-fn character(cs: &[u32], i: usize, k: usize) -> u32
+pub fn character(cs: &[u32], i: usize, k: usize) -> u32
     requires { ⌜ i ≤ length (now cs) ⌝ }
     ensures { λ r. ⌜ r ≡ getD (drop i (now (cs .entry))) k 0 ⌝ }
 {
@@ -355,79 +240,4 @@ pub fn is_resource(ys: &[u32]) -> bool
         return true;
     }
     is_arn(ys)
-}
-
-fn symbol(c: u32, wild: bool) -> u32
-    ensures { λ r. ⌜ r ≡ symbol wild c ⌝ }
-{
-    if wild { wildcard(c) } else { c }
-}
-
-// The escape that begins at a place with its two first characters.
-fn escape_at(cs: &[u32], i: usize, wild: bool) -> Step
-    requires { ⌜ Opened (now cs) i ⌝ }
-    ensures { λ r. ⌜ Says wild (now (cs .entry)) i r ⌝ }
-{
-    if character(cs, i, 3) != 125 {
-        return Step::Wrong;
-    }
-    let c = character(cs, i, 2);
-    match c {
-        36 | 42 | 63 => Step::Symbol { c, past: i + 4 },
-        _ => Step::Wrong,
-    }
-}
-
-fn symbol_at(cs: &[u32], i: usize, wild: bool) -> Step
-    requires { ⌜ i < length (now cs) ⌝ }
-    ensures { λ r. ⌜ Says wild (now (cs .entry)) i r ⌝ }
-{
-    let c = cs[i];
-    if c != 36 {
-        return Step::Symbol {
-            c: symbol(c, wild),
-            past: i + 1,
-        };
-    }
-    if character(cs, i, 1) != 123 {
-        return Step::Symbol {
-            c: symbol(c, wild),
-            past: i + 1,
-        };
-    }
-    escape_at(cs, i, wild)
-}
-
-fn escapes_right(cs: &[u32], wild: bool) -> bool
-    ensures { λ r. ⌜ r ≡ isRead (symbolsOf wild (now (cs .entry))) ⌝ }
-{
-    let mut i = 0;
-    while i < cs.len() {
-        let Step::Symbol { c: _, past } = symbol_at(cs, i, wild) else {
-            return false;
-        };
-        i = past;
-    }
-    true
-}
-
-// The symbols of an entry, in the place of the characters that say them. All escapes are looked at before the first
-// store, so that a run with a wrong one stays as it was.
-pub fn symbols(run: &mut [u32], wild: bool) -> Converted
-    ensures { λ r. ⌜ (r, now (run .exit)) ≡ converted (symbolsOf wild (now (run .entry))) (now (run .entry)) ⌝ }
-{
-    if !escapes_right(run, wild) {
-        return Converted::Wrong;
-    }
-    let mut i = 0;
-    let mut n = 0;
-    while i < run.len() {
-        let Step::Symbol { c, past } = symbol_at(run, i, wild) else {
-            return Converted::Wrong;
-        };
-        run[n] = c;
-        n += 1;
-        i = past;
-    }
-    Converted::Count(n)
 }

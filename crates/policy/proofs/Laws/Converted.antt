@@ -13,8 +13,8 @@ use Rattle.text.proofs.Laws.Putting.{lay-length}
 use Rattle.policy.specs.Forms.{Reading, wrong, read, both, ahead, symbol, symbolsBehind, symbolsOf}
 use Rattle.policy.specs.Members.{then}
 use Rattle.policy.specs.Told.{converted}
-use Rattle.policy.specs.declared.forms.Converted.{Converted}
-use Rattle.policy.specs.declared.forms.Converted.the-variants as C
+use Rattle.policy.specs.declared.symbols.Converted.{Converted}
+use Rattle.policy.specs.declared.symbols.Converted.the-variants as C
 use Rattle.policy.specs.Held.{heldText}
 use Rattle.policy.specs.Holding.{Extends, Laid, Left}
 use Rattle.policy.proofs.Laws.Formed.{part-is, shortened, then-read}

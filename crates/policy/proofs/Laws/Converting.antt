@@ -8,9 +8,9 @@ use native.Mathlib.Omega.{arith}
 use lib.ListN.{length, getD, drop, set, length-append, drop-of-length-le}
 use Rattle.text.specs.Putting.{lay}
 use Rattle.text.proofs.Laws.Putting.{lay-length, lay-snoc}
-use Rattle.policy.specs.declared.forms.Step.{Step}
-use Rattle.policy.specs.declared.forms.Step.the-variants as S
-use Rattle.policy.specs.declared.forms.Converted.the-variants as C
+use Rattle.policy.specs.declared.symbols.Step.{Step}
+use Rattle.policy.specs.declared.symbols.Step.the-variants as S
+use Rattle.policy.specs.declared.symbols.Converted.the-variants as C
 use Rattle.policy.specs.Forms.{Reading, wrong, read, wildcard, ahead, symbolsBehind, symbolsOf}
 use Rattle.policy.specs.Told.{converted, isRead, Says}
 use Rattle.policy.proofs.Laws.Symbols.{says-on, says-text, says-wrong}

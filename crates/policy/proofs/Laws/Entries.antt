@@ -12,8 +12,8 @@ use lib.ListN.{length, getD, take}
 use Rattle.text.specs.Base.{pick, oneOf}
 use Rattle.text.specs.Putting.{lay}
 use Rattle.text.proofs.Laws.Putting.{lay-length}
-use Rattle.policy.specs.declared.forms.Converted.{Converted}
-use Rattle.policy.specs.declared.forms.Converted.the-variants as C
+use Rattle.policy.specs.declared.symbols.Converted.{Converted}
+use Rattle.policy.specs.declared.symbols.Converted.the-variants as C
 use Rattle.policy.specs.Forms.{Reading, wrong, read, both, ahead, symbol, symbolsBehind, symbolsOf}
 use Rattle.policy.specs.Told.{converted}
 

@@ -14,8 +14,8 @@ use Rattle.policy.specs.Members.{then, characters, charactersOf}
 use Rattle.policy.specs.PolicyLayout.{numberOfJson}
 use Rattle.policy.specs.Room.{cost}
 use Rattle.policy.specs.Told.{toldNumber}
-use Rattle.policy.specs.declared.forms.Number.{Number}
-use Rattle.policy.specs.declared.forms.Number.the-variants as N
+use Rattle.policy.specs.declared.numbers.Number.{Number}
+use Rattle.policy.specs.declared.numbers.Number.the-variants as N
 use Rattle.policy.specs.Holding.{isNumber, Extends, Kept}
 use Rattle.policy.proofs.Laws.Holding.{never}
 use Rattle.policy.proofs.Laws.Numbers.{number-small}

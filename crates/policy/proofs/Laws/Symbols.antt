@@ -10,8 +10,8 @@ use lib.ListN.{length, getD, drop, drop-of-length-le, List·getD-eq-default}
 use lib.Seq.{drop-drop, getD-drop}
 use borrow.Author.Tests.{eq-eqb, ne-eqb}
 use Rattle.text.specs.Base.{oneOf}
-use Rattle.policy.specs.declared.forms.Step.{Step}
-use Rattle.policy.specs.declared.forms.Step.the-variants as S
+use Rattle.policy.specs.declared.symbols.Step.{Step}
+use Rattle.policy.specs.declared.symbols.Step.the-variants as S
 use Rattle.policy.specs.Forms.{Reading, wrong, read, both, wildcard, symbol, ahead, symbolsBehind, symbolsOf}
 use Rattle.policy.specs.Told.{isRead, Opened, onward, pastOf, Says}
 use Rattle.policy.proofs.Laws.Forms.{drop-next}

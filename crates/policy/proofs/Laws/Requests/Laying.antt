@@ -13,8 +13,8 @@ use Rattle.policy.specs.Held.{heldText}
 use Rattle.policy.specs.Told.{toldNumber}
 use Rattle.policy.specs.Room.{Roomy}
 use Rattle.policy.specs.Holding.{Extends, Laid}
-use Rattle.policy.specs.declared.forms.Number.{Number}
-use Rattle.policy.specs.declared.forms.Number.the-variants as N
+use Rattle.policy.specs.declared.numbers.Number.{Number}
+use Rattle.policy.specs.declared.numbers.Number.the-variants as N
 use Rattle.policy.specs.Requests.{typedAs}
 use Rattle.policy.proofs.Laws.Extends.{extends-none, extends-front, extends-within}
 use Rattle.policy.proofs.Laws.Formed.{part-is, then-read}

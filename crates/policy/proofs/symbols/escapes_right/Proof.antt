@@ -7,8 +7,8 @@ use Rattle.policy.specs.Forms.{symbolsOf}
 use Rattle.policy.specs.Told.{isRead}
 use Rattle.policy.proofs.Laws.Symbols.{says-on, right-next, right-stop, right-end}
 use borrow.Author.Needs.{needs}
-use Rattle.policy.proofs.forms.escapes_right.Statement.{statement}
-use Rattle.policy.proofs.forms.escapes_right.Tie as tie
+use Rattle.policy.proofs.symbols.escapes_right.Statement.{statement}
+use Rattle.policy.proofs.symbols.escapes_right.Tie as tie
 
 abbrev Inv-loop : tie.InvT-loop
 Inv-loop cs wild i₀ i = isRead (symbolsOf wild cs) ≡ isRead (symbolsOf wild (drop i cs))

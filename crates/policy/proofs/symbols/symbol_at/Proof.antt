@@ -3,8 +3,8 @@ use native.Mathlib.Omega.{arith}
 use Rattle.policy.proofs.Laws.Symbols.{says-plain, says-dollar}
 use mathlib.Core.Path.{sym, _∙_}
 use borrow.Author.Needs.{needs}
-use Rattle.policy.proofs.forms.symbol_at.Statement.{statement}
-use Rattle.policy.proofs.forms.symbol_at.Tie as tie
+use Rattle.policy.proofs.symbols.symbol_at.Statement.{statement}
+use Rattle.policy.proofs.symbols.symbol_at.Tie as tie
 
 mul-c : tie.Need-mul-c
 mul-c c = search needs

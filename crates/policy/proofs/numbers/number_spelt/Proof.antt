@@ -6,8 +6,8 @@ use Rattle.policy.specs.Told.{toldNumber, withDigit}
 use Rattle.policy.proofs.Laws.Numbers.{number-none, number-zero, number-leading, Counted, counted-start}
 use Rattle.policy.proofs.Laws.Numbers.{counted-next, counted-stop, counted-end}
 use borrow.Author.Needs.{needs}
-use Rattle.policy.proofs.forms.number_spelt.Statement.{statement}
-use Rattle.policy.proofs.forms.number_spelt.Tie as tie
+use Rattle.policy.proofs.numbers.number_spelt.Statement.{statement}
+use Rattle.policy.proofs.numbers.number_spelt.Tie as tie
 
 abbrev Inv-loop : tie.InvT-loop
 Inv-loop w n₀ i₀ n i = Counted w n i

@@ -4,8 +4,8 @@ use Prim.Native.Nat.{_-_}
 use lib.ListN.{length}
 use Rattle.policy.proofs.Laws.Converting.{Turned, turned-start, turned-same, turned-more, turned-end}
 use borrow.Author.Needs.{needs}
-use Rattle.policy.proofs.forms.wildcards.Statement.{statement}
-use Rattle.policy.proofs.forms.wildcards.Tie as tie
+use Rattle.policy.proofs.symbols.wildcards.Statement.{statement}
+use Rattle.policy.proofs.symbols.wildcards.Tie as tie
 
 abbrev Inv-loop : tie.InvT-loop
 Inv-loop run₀ i₀ run i = Turned run₀ run i

@@ -8,8 +8,8 @@ use Rattle.policy.proofs.Laws.Symbols.{says-on}
 use Rattle.policy.proofs.Laws.Converting.{Sofar, sofar-start, sofar-length}
 use Rattle.policy.proofs.Laws.Converting.{sofar-next, sofar-right, sofar-end, converted-wrong}
 use borrow.Author.Needs.{needs}
-use Rattle.policy.proofs.forms.symbols.Statement.{statement}
-use Rattle.policy.proofs.forms.symbols.Tie as tie
+use Rattle.policy.proofs.symbols.symbols.Statement.{statement}
+use Rattle.policy.proofs.symbols.symbols.Tie as tie
 
 abbrev Inv-loop : tie.InvT-loop
 Inv-loop run₀ wild i₀ n₀ run i n = Sofar wild run₀ run i n

@@ -6,8 +6,8 @@ use mathlib.Core.List.{[], _∷_}
 use Rattle.text.specs.Base.{oneOf}
 use mathlib.Core.Path.{ap, sym, _∙_}
 use borrow.Author.Needs.{needs}
-use Rattle.policy.proofs.forms.escape_at.Statement.{statement}
-use Rattle.policy.proofs.forms.escape_at.Tie as tie
+use Rattle.policy.proofs.symbols.escape_at.Statement.{statement}
+use Rattle.policy.proofs.symbols.escape_at.Tie as tie
 
 character-requires : tie.Need-character-requires
 character-requires c κs = omega (arith, c .before .pre .inside)

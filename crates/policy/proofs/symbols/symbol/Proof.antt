@@ -2,8 +2,8 @@
 use Rattle.policy.proofs.Laws.Symbols.{symbol-wild, symbol-plain}
 use mathlib.Core.Path.{_∙_}
 use borrow.Author.Needs.{needs}
-use Rattle.policy.proofs.forms.symbol.Statement.{statement}
-use Rattle.policy.proofs.forms.symbol.Tie as tie
+use Rattle.policy.proofs.symbols.symbol.Statement.{statement}
+use Rattle.policy.proofs.symbols.symbol.Tie as tie
 
 wildcard-requires : tie.Need-wildcard-requires
 wildcard-requires c κs = search needs

@@ -2,8 +2,8 @@
 use Rattle.policy.proofs.Laws.Characters.{wildcard-none}
 use Rattle.policy.specs.Forms.{wildcard}
 use mathlib.Core.Path.{ap, sym}
-use Rattle.policy.proofs.forms.wildcard.Statement.{statement}
-use Rattle.policy.proofs.forms.wildcard.Tie as tie
+use Rattle.policy.proofs.symbols.wildcard.Statement.{statement}
+use Rattle.policy.proofs.symbols.wildcard.Tie as tie
 
 returns : tie.Need-returns
 unfolding wildcard

@@ -2,8 +2,8 @@
 use Rattle.policy.proofs.Laws.Numbers.{digit-more, digit-great, digit-none}
 use Rattle.text.proofs.Laws.Tests.{under, over}
 use borrow.Author.Needs.{needs}
-use Rattle.policy.proofs.forms.with_digit.Statement.{statement}
-use Rattle.policy.proofs.forms.with_digit.Tie as tie
+use Rattle.policy.proofs.numbers.with_digit.Statement.{statement}
+use Rattle.policy.proofs.numbers.with_digit.Tie as tie
 
 mul-m : tie.Need-mul-m
 mul-m c = search needs
