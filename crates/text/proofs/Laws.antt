@@ -26,3 +26,4 @@ pub mod Lines
 pub mod Putting
 pub mod Strings
 pub mod Written
+pub mod Printing

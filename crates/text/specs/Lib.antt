@@ -8,6 +8,7 @@ pub mod Contents
 pub mod Written
 pub mod Putting
 pub mod Lines
+pub mod Printing
 pub mod Machine
 pub mod Reading
 pub mod Decoding
