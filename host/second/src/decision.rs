@@ -51,8 +51,9 @@ pub fn decide(policy: &Policy, record: &Record) -> Decision {
 
 /// Some action, some resource and every condition row.
 pub fn statement_matches(policy: &Policy, statement: &Statement, record: &Record) -> bool {
-    some_entry_matches(policy, &statement.actions, record.action())
-        && some_entry_matches(policy, &statement.resources, record.resource())
+    let [action, resource] = [record.action(), record.resource()].map(Value::Text);
+    some_entry_matches(policy, &statement.actions, action)
+        && some_entry_matches(policy, &statement.resources, resource)
         && policy
             .rows_of(statement)
             .iter()

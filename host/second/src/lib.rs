@@ -9,14 +9,15 @@
 //! policies; `forms`, `members`, `symbols`, `policy`, `policy_layout`,
 //! `record_layout`, `matching` and `decision` know nothing of logs;
 //! `candidates`, `row`, `room` and `written_form` refine; `operations` and
-//! `program` are what is called. `generate`, `model`, `properties` and
-//! `corpus` try implementations, this one or another.
+//! `program` are what is called. `layouts` shows what was read. `generate`,
+//! `model`, `properties` and `corpus` try implementations, this one or another.
 
 #![forbid(unsafe_code)]
 
 pub mod corpus;
 pub mod generate;
 pub mod implementation;
+pub mod layouts;
 pub mod model;
 pub mod properties;
 

@@ -85,6 +85,22 @@ pub fn fresh(room: &mut [u32]) -> Result<(), Refusal> {
     Ok(())
 }
 
+/// Reads a policy only to look at it.
+pub fn with_policy<T>(text: &[u8], look: impl FnOnce(&Policy) -> T) -> Result<T, Refusal> {
+    at_desk(|desk| {
+        desk.read_policy(text)?;
+        Ok(look(&desk.policy))
+    })
+}
+
+/// Reads a record only to look at it.
+pub fn with_record<T>(text: &[u8], look: impl FnOnce(&Record) -> T) -> Result<T, Refusal> {
+    at_desk(|desk| {
+        desk.read_record(text)?;
+        Ok(look(&desk.record))
+    })
+}
+
 fn at_desk<T>(run: impl FnOnce(&mut Desk) -> T) -> T {
     DESK.with_borrow_mut(run)
 }

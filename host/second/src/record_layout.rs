@@ -37,24 +37,30 @@ pub struct Record {
 }
 
 impl Record {
-    pub fn action(&self) -> Value<'_> {
-        Value::Text(self.action.of(&self.characters))
+    pub fn action(&self) -> &[u32] {
+        self.action.of(&self.characters)
     }
 
-    pub fn resource(&self) -> Value<'_> {
-        Value::Text(self.resource.of(&self.characters))
+    pub fn resource(&self) -> &[u32] {
+        self.resource.of(&self.characters)
+    }
+
+    /// Keys with their values, in the order of the text.
+    pub fn context(&self) -> impl Iterator<Item = (&[u32], Value<'_>)> {
+        self.context.iter().map(|entry| {
+            let value = match entry.value {
+                Kept::Text(span) => Value::Text(span.of(&self.characters)),
+                Kept::Number(number) => Value::Number(number),
+            };
+            (entry.key.of(&self.characters), value)
+        })
     }
 
     /// The value under a key, if the record has the key.
     pub fn value(&self, key: &[u32]) -> Option<Value<'_>> {
-        let entry = self.context.iter().find(|entry| {
-            let own = entry.key.of(&self.characters);
-            forms::same_key(own, key)
-        })?;
-        Some(match entry.value {
-            Kept::Text(span) => Value::Text(span.of(&self.characters)),
-            Kept::Number(number) => Value::Number(number),
-        })
+        let mut context = self.context();
+        let found = context.find(|(own, _)| forms::same_key(own, key));
+        found.map(|(_, value)| value)
     }
 
     /// Reads a scanned text.
@@ -84,9 +90,8 @@ impl Record {
     /// Wildcards are no characters, so the forms of a policy's entries leave
     /// just the plain ones here; the lone star is the one special resource.
     fn is_formed(&self) -> bool {
-        let resource = self.resource.of(&self.characters);
-        is_action(self.action.of(&self.characters))
-            && (resource == [u32::from(b'*')] || is_arn(resource))
+        let resource = self.resource();
+        is_action(self.action()) && (resource == [u32::from(b'*')] || is_arn(resource))
     }
 
     fn read_context(&mut self, source: &Source, node: usize) -> Result<(), Mismatch> {

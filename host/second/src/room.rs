@@ -37,8 +37,9 @@ pub fn charge(policy: &Policy, record: &Record, room: &mut [u32]) {
         if statement.effect == Effect::Deny || !statement_matches(policy, statement, record) {
             continue;
         }
-        charge_list(policy, &statement.actions, record.action(), room);
-        charge_list(policy, &statement.resources, record.resource(), room);
+        let [action, resource] = [record.action(), record.resource()].map(Value::Text);
+        charge_list(policy, &statement.actions, action, room);
+        charge_list(policy, &statement.resources, resource, room);
         for condition in policy.rows_of(statement) {
             if let Some(value) = row_value(policy, condition, record) {
                 charge_list(policy, &condition.entries, value, room);

@@ -6,6 +6,7 @@ mod common;
 mod corpus;
 mod imitations;
 mod json;
+mod layouts;
 mod limits;
 mod policies;
 mod program;
