@@ -6,12 +6,14 @@
 //! without reading any JSON.
 
 pub mod damage;
+pub mod edits;
 pub mod plan;
 pub mod planner;
 pub mod random;
 pub mod render;
 pub mod requests;
 pub mod stock;
+pub mod tree;
 
 use damage::{damage_policy, damage_record};
 use plan::{PlannedPolicy, PlannedRecord};

@@ -3,7 +3,7 @@
 use super::plan::*;
 use super::random::Random;
 use super::stock::*;
-use crate::limits::ENTRY_CHARACTERS;
+use crate::limits::{CONTEXT_ENTRIES, ENTRY_CHARACTERS, KEY_CHARACTERS};
 
 /// A record made to match some statement, then often changed a little. It has
 /// the layout and keeps every limit.
@@ -32,6 +32,39 @@ pub fn record(policy: &PlannedPolicy, random: &mut Random) -> PlannedRecord {
     }
     random.shuffle(&mut record.context);
     record
+}
+
+/// Takes a record over one limit, or just up to it.
+pub fn bring_to_a_limit(record: &mut PlannedRecord, random: &mut Random) {
+    let over = random.below(2);
+    match random.below(5) {
+        0 => lengthen(&mut record.action, 'G', ENTRY_CHARACTERS + over),
+        1 => {
+            let resource = record.resource.get_or_insert_with(|| "arn:::::".to_owned());
+            if resource != "*" {
+                lengthen(resource, 'é', ENTRY_CHARACTERS + over);
+            }
+        }
+        2 => {
+            let mut text = String::new();
+            lengthen(&mut text, '語', ENTRY_CHARACTERS + over);
+            record.context = vec![("k".to_owned(), PlannedValue::Text(text))];
+        }
+        3 => {
+            let mut key = String::new();
+            lengthen(&mut key, 'k', KEY_CHARACTERS + over);
+            record.context = vec![(key, PlannedValue::Number(0))];
+        }
+        _ => {
+            let entry = |number: usize| (format!("k{number}"), value(random));
+            record.context = (0..CONTEXT_ENTRIES + over).map(entry).collect();
+        }
+    }
+}
+
+fn lengthen(text: &mut String, filling: char, length: usize) {
+    let more = length.saturating_sub(text.chars().count());
+    text.extend(std::iter::repeat_n(filling, more));
 }
 
 /// Adds a context entry unless its key is there already.
