@@ -1,0 +1,31 @@
+-- A run of another length is refused untouched; otherwise the numbers are those of reading's answer.
+use mathlib.Core.Path.{refl}
+use Rattle.policy.specs.Held.{held}
+use Rattle.policy.specs.Reading.{policyRules}
+use Rattle.policy_probe.specs.Numbers.{unfit}
+use Rattle.policy_probe.proofs.Laws.Numbers.{tells}
+use borrow.Author.Needs.{needs}
+use Rattle.policy_probe.proofs.policy_probe_policy.Statement.{statement}
+use Rattle.policy_probe.proofs.policy_probe_policy.Tie as tie
+
+returns : tie.Need-returns
+returns c = unfit (c .if1 .taken) refl
+
+read-policy-requires : tie.Need-read-policy-requires
+read-policy-requires c κs = search needs
+
+numbers-requires : tie.Need-numbers-requires
+numbers-requires c κs = search needs
+
+same-length : tie.Need-same-length
+same-length c = search needs
+
+returns-2 : tie.Need-returns-2
+returns-2 c =
+    tells policyRules held _ _ _ (c .before .before .before .read-policy .result)
+    (c .before .before .before .before .before .if1 .left) (c .before .before .before .read-policy .ensures)
+    (c .numbers .ensures)
+
+pub policy-probe-policy-spec : {M : Type 1} → statement M
+policy-probe-policy-spec =
+    tie.close (tie.spec returns read-policy-requires numbers-requires same-length returns-2)

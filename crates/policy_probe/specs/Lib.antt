@@ -1,0 +1,2 @@
+-- What the contracts of `policy_probe` cite.
+pub mod Numbers
