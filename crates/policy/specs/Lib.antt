@@ -18,3 +18,5 @@ pub mod Statements
 pub mod Requests
 pub mod Spoken
 pub mod Matching
+pub mod WrittenForm
+pub mod Valid
