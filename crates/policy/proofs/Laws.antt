@@ -40,3 +40,10 @@ pub mod Matching
 pub mod MatchingPlaces
 pub mod MatchingSteps
 pub mod MatchingTrials
+pub mod TreeSpelling
+pub mod TreeDigits
+pub mod TreeForms
+pub mod TreeEntries
+pub mod TreeRows
+pub mod TreeStatement
+pub mod Tree

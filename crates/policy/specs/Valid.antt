@@ -1,7 +1,7 @@
 -- Valid policies: what the policy layout asks of a policy, said of the policy itself and not of a text.
 --   Symbols ys     the characters and wildcards of an entry: scalar values, `star` and `any`
---   Valid p        at least one of each list, entries of their forms, no two Sids equal, no key twice in an operator and
---                  no operator twice
+--   Valid p        at least one of each list, entries of their forms, no two Sids equal, no operator twice and no key
+--                  twice in one
 -- Limits are no part of it.  Pinned by: Laws/Tree (such a policy is what its written form says).
 use mathlib.Core.Path.{_≡_}
 use mathlib.Core.Bool.{true}

@@ -18,8 +18,8 @@ use Rattle.policy.specs.Policy.{star, any, Effect, Allow, Deny, Operator
 use Rattle.policy.specs.Policy.{NumericLessThanEquals, Value, text, number, Row, Statement, Policy}
 use Rattle.policy.specs.Forms.{both, either}
 use Rattle.policy.specs.Words.{versionWord, statementWord, editionWord, sidWord, effectWord, actionWord}
-use Rattle.policy.specs.Words.{resourceWord, conditionWord, allowWord, denyWord, stringEqualsWord}
-use Rattle.policy.specs.Words.{stringLikeWord, numericLessThanEqualsWord}
+use Rattle.policy.specs.Words.{resourceWord, conditionWord, allowWord, denyWord, stringEqualsWord, stringLikeWord}
+use Rattle.policy.specs.Words.{numericLessThanEqualsWord}
 use Rattle.policy.specs.PolicyLayout.{sameOperator, Group}
 
 -- ---- characters
