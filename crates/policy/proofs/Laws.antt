@@ -46,4 +46,5 @@ pub mod TreeForms
 pub mod TreeEntries
 pub mod TreeRows
 pub mod TreeStatement
+pub mod TreeSound
 pub mod Tree

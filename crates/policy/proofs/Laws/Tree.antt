@@ -1,19 +1,27 @@
 -- A valid policy's written form reads back as the policy, as a tree and as a text.
---   tree-policy     from the tree
-use mathlib.Core.Path.{_≡_, refl}
+--   tree-policy       from the tree
+--   written-whole     the bytes are a whole JSON text
+--   written-policy    and say the policy
+use mathlib.Core.Path.{_≡_, refl, ap, _∙_}
 use mathlib.Core.Bool.{true}
 use mathlib.Core.List.{[], _∷_}
+use native.Mathlib.Omega.{arith}
 use Rattle.text.specs.Json.{Json, string, Members, no-members, named}
 use Rattle.text.specs.Decoding.{readOf, sequenceOf, unitsBehind, meaning, textOf, equal, sameText}
+use Rattle.text.specs.Machine.{verdict}
+use Rattle.text.specs.declared.scan.Verdict.the-variants.{Whole}
+use Rattle.text.proofs.Laws.Contents.{contents}
+use Rattle.text.proofs.Laws.Printing.{printed-whole, printed-contents}
 use Rattle.policy.specs.Policy.{Policy}
 use Rattle.policy.specs.Forms.{read}
 use Rattle.policy.specs.Words.{versionWord, statementWord, editionWord}
 use Rattle.policy.specs.Members.{isWord, one, slot, isAmong, known}
 use Rattle.policy.specs.PolicyLayout.{statementOf, policyIn, policyOf}
-use Rattle.policy.specs.WrittenForm.{listOf, statementTree, treeOf}
+use Rattle.policy.specs.WrittenForm.{listOf, statementTree, treeOf, writtenPolicy}
 use Rattle.policy.specs.Valid.{ValidStatement, Valid}
 use Rattle.policy.proofs.Laws.TreeEntries.{list-tree}
 use Rattle.policy.proofs.Laws.TreeStatement.{statement-tree}
+use Rattle.policy.proofs.Laws.TreeSound.{tree-sound, tree-depth}
 
 module _ (v t : Json) where
   abbrev laid : Members
@@ -48,3 +56,15 @@ tree-policy p v =
       list-tree statementOf statementTree ValidStatement statement-tree (v .statements),
       v .sids,
     )
+
+-- ---- as bytes
+
+module _ (p : Policy) (v : Valid p) where
+  pub written-whole : verdict (writtenPolicy p) ≡ Whole
+  unfolding writtenPolicy
+  written-whole = printed-whole (tree-sound p v) (omega (arith, tree-depth p))
+
+  pub written-policy : policyOf (contents (writtenPolicy p)) ≡ read p
+  unfolding writtenPolicy
+  written-policy =
+      ap policyOf (printed-contents (tree-sound p v) (omega (arith, tree-depth p))) ∙ tree-policy p v
