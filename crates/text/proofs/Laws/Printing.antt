@@ -3,6 +3,7 @@
 --   printed-whole      the scan finds it whole, if it has no more levels than a text may have
 --   printed-contents   and what it says is the tree
 --   written-sound      a string of written characters is sound, and so is a member with such a name
+--   says-sound         what any JSON text says is sound
 use mathlib.Core.Path.{_≡_, refl, sym, ap, _∙_, subst}
 use mathlib.Core.Bool.{true, false}
 use mathlib.Core.List.{List, [], _∷_, _++_, append-assoc}
@@ -13,15 +14,16 @@ use lib.Seq.{drop-drop, take-at, drop-at, take-all}
 use Rattle.text.specs.Base.{At}
 use Rattle.text.specs.Strings.{Unit, Body}
 use Rattle.text.specs.Json.{Json, Values, Members, string, list, object, no-more, no-members, named, depth}
-use Rattle.text.specs.Json.{levels, Space, no-space, Spelt, Quoted, Piece, a-value, rest, more, Reads, a-null}
-use Rattle.text.specs.Json.{a-true, a-false, a-number, a-string, empty-list, some-list, element, close-list}
-use Rattle.text.specs.Json.{comma-list, empty-object, some-object, member, close-object, comma-object, JsonText}
+use Rattle.text.specs.Json.{levels, Space, no-space, Spelt, Quoted, Piece, a-value, elements, rest, members, more}
+use Rattle.text.specs.Json.{Reads, a-null, a-true, a-false, a-number, a-string, empty-list, some-list, element}
+use Rattle.text.specs.Json.{close-list, comma-list, empty-object, some-object, member, close-object, comma-object}
+use Rattle.text.specs.Json.{JsonText}
 use Rattle.text.specs.Machine.{verdict}
 use Rattle.text.specs.Written.{Scalars, writtenText}
-use Rattle.text.specs.Printing.{quoted, printed, printedElements, printedRest, printedMembers, printedMore}
-use Rattle.text.specs.Printing.{Sound, sound-null, sound-bool, sound-number, sound-string, sound-list}
-use Rattle.text.specs.Printing.{sound-object, SoundValues, sound-no-more, sound-also, SoundMembers}
-use Rattle.text.specs.Printing.{sound-no-members, sound-named}
+use Rattle.text.specs.Printing.{quoted, printed, printedElements, printedRest, printedMembers, printedMore, Sound}
+use Rattle.text.specs.Printing.{sound-null, sound-bool, sound-number, sound-string, sound-list, sound-object}
+use Rattle.text.specs.Printing.{SoundValues, sound-no-more, sound-also, SoundMembers, sound-no-members}
+use Rattle.text.specs.Printing.{sound-named}
 use Rattle.text.specs.declared.scan.Verdict.the-variants.{Whole}
 use Rattle.text.proofs.Laws.Parts.{spelt-drop, spelt-length, spelt-first}
 use Rattle.text.proofs.Laws.Meaning.{verdict-unique}
@@ -181,3 +183,32 @@ module _ {cs : List ℕ} (p : Scalars cs) where
   pub written-named : {t : Json} {ms : Members} → Sound t → SoundMembers ms
       → SoundMembers (named (writtenText cs) t ms)
   written-named t ms = sound-named (text-tells p .body) t ms
+
+-- ---- what is read
+
+abbrev SoundPiece : Piece → Type 0
+SoundPiece (a-value t) = Sound t
+SoundPiece (elements ts) = SoundValues ts
+SoundPiece (rest ts) = SoundValues ts
+SoundPiece (members ms) = SoundMembers ms
+SoundPiece (more ms) = SoundMembers ms
+
+reads-sound : {s : List ℕ} {p : Piece} {i e : ℕ} → Reads s p i e → SoundPiece p
+reads-sound (a-null p) = sound-null
+reads-sound (a-true p) = sound-bool
+reads-sound (a-false p) = sound-bool
+reads-sound (a-number p n) = sound-number n
+reads-sound (a-string q) = sound-string (q .body)
+reads-sound (empty-list o w c) = sound-list sound-no-more
+reads-sound (some-list o w r) = sound-list (reads-sound r)
+reads-sound (element r q) = sound-also (reads-sound r) (reads-sound q)
+reads-sound (close-list w c) = sound-no-more
+reads-sound (comma-list w c x r) = reads-sound r
+reads-sound (empty-object o w c) = sound-object sound-no-members
+reads-sound (some-object o w r) = sound-object (reads-sound r)
+reads-sound (member n w c x r q) = sound-named (n .body) (reads-sound r) (reads-sound q)
+reads-sound (close-object w c) = sound-no-members
+reads-sound (comma-object w c x r) = reads-sound r
+
+pub says-sound : {s : List ℕ} {t : Json} → JsonText s t → Sound t
+says-sound p = reads-sound (p .reads)
