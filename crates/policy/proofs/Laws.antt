@@ -48,3 +48,5 @@ pub mod TreeRows
 pub mod TreeStatement
 pub mod TreeSound
 pub mod Tree
+pub mod DecidingWalk
+pub mod Deciding

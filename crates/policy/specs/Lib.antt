@@ -20,3 +20,5 @@ pub mod Spoken
 pub mod Matching
 pub mod WrittenForm
 pub mod Valid
+pub mod Decision
+pub mod Deciding

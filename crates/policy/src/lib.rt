@@ -1,5 +1,6 @@
 // Policies and records: layouts, limits, refusals and the decision. Knows nothing of logs and rooms.
 pub mod contexts;
+pub mod deciding;
 pub mod entries;
 pub mod forms;
 pub mod holding;

@@ -1,0 +1,89 @@
+-- A walk over things that lie in a run one behind the other, up to the one that decides.
+use mathlib.Core.Path.{_≡_, refl, sym, ap, _∙_, subst}
+use mathlib.Core.Bool.{Bool, true, false}
+use mathlib.Core.List.{List, [], _∷_, _++_}
+use Prim.Native.Nat.{ℕ, _+_, _≤_, _<_}
+use native.Mathlib.Omega.{arith}
+use lib.ListN.{length}
+use Rattle.policy.specs.Forms.{either}
+use Rattle.policy.specs.Held.{heldEach, anyOf}
+use Rattle.policy.specs.Lying.{Lies, Lying, LyingMany}
+use Rattle.policy.proofs.Laws.Runs.{lies-front, lies-back}
+
+-- Of n things, each held by h, i are passed and the others lie from p on. What g tells of those still to come is b, what
+-- is to be told of all.
+pub record Coming {A B : Type 0} (h : A → List ℕ) (run : List ℕ) (n i p : ℕ) (g : List A → B) (b : B) : Type 0 where
+  pub rest : List A
+  pub lies : Lies run p (heldEach h rest)
+  pub count : i + length rest ≡ n
+  pub same : g rest ≡ b
+
+pub coming :
+    {A B : Type 0} {h : A → List ℕ} {run : List ℕ} {n p : ℕ} {g : List A → B} (all : List A)
+    → n ≡ length all → Lies run p (heldEach h all) → Coming h run n 0 p g (g all)
+coming all c l = record { rest = all; lies = l; count = omega arith; same = refl }
+
+module _ {A B : Type 0} {h : A → List ℕ} {run : List ℕ} {n i p : ℕ} {g : List A → B} {b : B}
+    (w : Coming h run n i p g b) where
+  -- the next thing, and those behind it
+  record Turn : Type 0 where
+    pub head : A
+    pub tail : List A
+    pub is : w .rest ≡ head ∷ tail
+
+  turn : i < n → Turn
+  turn t = by (w .rest) refl
+    where
+      by : (xs : List A) → w .rest ≡ xs → Turn
+      by [] z = absurd (omega (arith, w .count, ap length z))
+      by (x ∷ xs) z = record { head = x; tail = xs; is = z }
+
+  turn-lies : (t : Turn) → Lies run p (h (t .head) ++ heldEach h (t .tail))
+  unfolding heldEach
+  turn-lies t = subst (λ (xs : List A). Lies run p (heldEach h xs)) (t .is) (w .lies)
+
+  head-lies : (t : Turn) → Lies run p (h (t .head))
+  head-lies t = lies-front (h (t .head)) (heldEach h (t .tail)) (turn-lies t)
+
+  pub coming-lying : i < n → Lying h run p
+  coming-lying t = let y = turn t in record { thing = y .head; lies = head-lies y }
+
+  -- the next thing decides
+  pub coming-decided : i < n → (v : B) → ((x : A) → Lies run p (h x) → (xs : List A) → g (x ∷ xs) ≡ v) → v ≡ b
+  coming-decided t v s =
+      let y = turn t in
+      sym (s (y .head) (head-lies y) (y .tail)) ∙ ap g (sym (y .is)) ∙ w .same
+
+  -- it is passed
+  pub coming-next :
+      i < n → (q : ℕ) (f : List A → B) → ((x : A) → Lies run p (h x) → q ≡ p + length (h x))
+      → ((x : A) → Lies run p (h x) → (xs : List A) → g (x ∷ xs) ≡ f xs) → Coming h run n (i + 1) q f b
+  coming-next t q f far s =
+      let y = turn t in
+      let e = far (y .head) (head-lies y) in
+      record {
+        rest = y .tail;
+        lies = subst (λ (z : ℕ). Lies run z (heldEach h (y .tail))) (sym e)
+            (lies-back (h (y .head)) (heldEach h (y .tail)) (turn-lies y));
+        count = omega (arith, w .count, ap length (y .is));
+        same = sym (s (y .head) (head-lies y) (y .tail)) ∙ ap g (sym (y .is)) ∙ w .same;
+      }
+
+  -- none is left
+  pub coming-end : n ≤ i → g [] ≡ b
+  coming-end t = by (w .rest) refl
+    where
+      by : (xs : List A) → w .rest ≡ xs → g [] ≡ b
+      by [] z = ap g (sym z) ∙ w .same
+      by (x ∷ xs) z = absurd (omega (arith, w .count, ap length z))
+
+-- ---- whether one of them is of a kind
+
+module _ {A : Type 0} (f : A → Bool) (x : A) (xs : List A) where
+  pub any-here : f x ≡ true → anyOf f (x ∷ xs) ≡ true
+  unfolding anyOf
+  any-here e = ap (λ (t : Bool). either t (anyOf f xs)) e
+
+  pub any-on : f x ≡ false → anyOf f (x ∷ xs) ≡ anyOf f xs
+  unfolding anyOf
+  any-on e = ap (λ (t : Bool). either t (anyOf f xs)) e

@@ -1,0 +1,52 @@
+-- Deciding: what the contracts of `deciding` cite besides the decision.
+--   Labelled           a number, a text behind its length, and more: how rows, context entries and statements begin
+--   Finds run r f      r is the place of the context entry whose value was found; 0 where none was
+--   resultNumber x     a row's result: 0 holds, 1 key missing, 2 of another type, 3 no entry matches
+--   failingOf x        a part of a statement as `deciding` tells it
+use mathlib.Core.Path.{_≡_}
+use mathlib.Core.List.{List, _∷_, _++_}
+use Prim.Native.Nat.{ℕ, _<_}
+use Rattle.policy.specs.Policy.{Value, Context}
+use Rattle.policy.specs.Held.{heldText, heldContext}
+use Rattle.policy.specs.Lying.{Lies}
+use Rattle.policy.specs.Decision.{Why, missing, other-type, no-entry, Result, holds, fails}
+use Rattle.policy.specs.Decision.{Found, nothing, found, Part, none, action, resource, row}
+use Rattle.policy.specs.declared.deciding.Failing.{Failing}
+use Rattle.policy.specs.declared.deciding.Failing.the-variants.{Nothing, Action, Resource, Row}
+
+-- ---- places
+
+pub record Labelled : Type 0 where
+  pub first : ℕ
+  pub label : List ℕ
+  pub more : List ℕ
+
+abbrev pub heldLabelled : Labelled → List ℕ
+heldLabelled x = x .first ∷ (heldText (x .label) ++ x .more)
+
+pub record FindsAt (run : List ℕ) (r : ℕ) (v : Value) : Type 0 where
+  pub context : Context
+  pub is : context .value ≡ v
+  pub lies : Lies run r (heldContext context)
+  pub some : 0 < r
+
+abbrev pub Finds : List ℕ → ℕ → Found → Type 0
+Finds run r nothing = r ≡ 0
+Finds run r (found v) = FindsAt run r v
+
+-- ---- answers
+
+abbrev pub whyNumber : Why → ℕ
+whyNumber missing = 1
+whyNumber other-type = 2
+whyNumber no-entry = 3
+
+abbrev pub resultNumber : Result → ℕ
+resultNumber holds = 0
+resultNumber (fails w) = whyNumber w
+
+abbrev pub failingOf : Part → Failing
+failingOf none = Nothing
+failingOf action = Action
+failingOf resource = Resource
+failingOf (row k w) = Row k (whyNumber w)

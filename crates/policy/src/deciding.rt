@@ -1,0 +1,45 @@
+// The decision: which statement of a held policy denies or allows a held request.
+ghost use mathlib.Core.Path.{_≡_};
+ghost use mathlib.Core.List.{List};
+ghost use Prim.Native.Nat.{ℕ, _+_};
+ghost use lib.ListN.{length};
+ghost use Rattle.policy.specs.Policy.{Value};
+ghost use Rattle.policy.specs.Held.{heldText, heldValue};
+ghost use Rattle.policy.specs.Lying.{Lies, Lying};
+ghost use Rattle.policy.specs.Deciding.{Labelled, heldLabelled};
+use crate::limits;
+
+// Denied or allowed by a statement, counted from 1; or denied by none and allowed by none.
+pub enum Decision {
+    Denied(usize),
+    Allowed(usize),
+    Implicit,
+}
+
+// The first part of a statement that does not hold: a row by its place in the statement, counted from 1, and why.
+pub enum Failing {
+    Nothing,
+    Action,
+    Resource,
+    Row(usize, u32),
+}
+
+// The place behind the text or the number at a place.
+fn past_value(run: &[u32], at: usize) -> usize
+    requires { ⌜ Lying heldValue (now run) at ⌝ }
+    ensures { λ r. ⌜ ((x : Value) → Lies (now (run .entry)) at (heldValue x) → r ≡ at + length (heldValue x)) ⌝ }
+{
+    let n = run[at];
+    if n >= limits::MARK {
+        return at + 2;
+    }
+    at + 1 + n as usize
+}
+
+// The place behind the label of what lies at a place: a row's key, a context entry's, a statement's Sid.
+fn behind_label(run: &[u32], at: usize) -> usize
+    requires { ⌜ Lying heldLabelled (now run) at ⌝ }
+    ensures { λ r. ⌜ ((x : Labelled) → Lies (now (run .entry)) at (heldLabelled x) → r ≡ at + 2 + length (x .label)) ⌝ }
+{
+    at + 2 + run[at + 1] as usize
+}
