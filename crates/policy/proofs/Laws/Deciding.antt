@@ -4,6 +4,7 @@ use mathlib.Core.Bool.{Bool, true, false}
 use mathlib.Core.List.{List, [], _∷_, _++_}
 use Prim.Native.Nat.{ℕ, _+_, _-_, _*_, _/_, _%_, _≤_, _<_}
 use native.Mathlib.Nat.{div-add-mod', mod-lt}
+use native.Mathlib.Decide.{decLe}
 use native.Mathlib.Omega.{arith}
 use lib.Dec.{leb}
 use lib.ListN.{length, getD}
@@ -53,3 +54,45 @@ pub labelled-past :
     {run : List ℕ} {p : ℕ} (x : Labelled) → Lies run p (heldLabelled x)
     → p + 2 + getD run (p + 1) 0 ≡ p + 2 + length (x .label)
 labelled-past {p = p} x l = ap (λ (k : ℕ). p + 2 + k) (labelled x l .count)
+
+-- ---- numbers by their halves
+
+pub halves-inside : {run : List ℕ} {p : ℕ} (n : ℕ) → Lies run p (heldNumber n) → p + 1 < length run
+halves-inside n l = lies-inside (lies-next l)
+
+lower-half : {run : List ℕ} {p : ℕ} (n : ℕ) → Lies run p (heldNumber n) → getD run (p + 1) 0 ≡ n % 4294967296
+lower-half n l = lies-first (lies-next l)
+
+abbrev half : ℕ
+half = 4294967296
+
+-- a number is its halves, the lower one below 2 ^ 32
+parted : (n : ℕ) → (n / half * 4294967296 + n % half ≡ n) × (n % half < 4294967296)
+parted n = (div-add-mod' n half, mod-lt n {m = half} (omega arith))
+
+upper-less : (m n : ℕ) → m / half < n / half → m < n
+upper-less m n h = omega (arith, parted m, parted n)
+
+upper-same : (m n : ℕ) → m / half ≡ n / half → leb m n ≡ leb (m % half) (n % half)
+upper-same m n e = by (decLe (m % half) (n % half))
+  where
+    by : Dec (m % half ≤ n % half) → leb m n ≡ leb (m % half) (n % half)
+    by (yes h) = le-leb m n (omega (arith, parted m, parted n)) ∙ sym (le-leb (m % half) (n % half) h)
+    by (no h) =
+        let less : n % half < m % half = omega (arith, h) in
+        lt-leb m n (omega (arith, parted m, parted n)) ∙ sym (lt-leb (m % half) (n % half) less)
+
+module _ {run at : List ℕ} {p q : ℕ} (n m : ℕ) (l : Lies run p (heldNumber n)) (k : Lies at q (heldNumber m)) where
+  pub halves-below : getD at q 0 < getD run p 0 → true ≡ leb m n
+  halves-below h =
+      let less = upper-less m n (omega (arith, lies-first l, lies-first k)) in
+      sym (le-leb m n (omega arith))
+
+  pub halves-above : getD run p 0 < getD at q 0 → false ≡ leb m n
+  halves-above h = sym (lt-leb m n (upper-less n m (omega (arith, lies-first l, lies-first k))))
+
+  pub halves-level :
+      getD run p 0 ≤ getD at q 0 → getD at q 0 ≤ getD run p 0 → leb (getD at (q + 1) 0) (getD run (p + 1) 0) ≡ leb m n
+  halves-level h g =
+      ap (λ (x : ℕ). leb x (getD run (p + 1) 0)) (lower-half m k) ∙ ap (leb (m % half)) (lower-half n l)
+      ∙ sym (upper-same m n (omega (arith, lies-first l, lies-first k)))
