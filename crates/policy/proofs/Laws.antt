@@ -50,3 +50,5 @@ pub mod TreeSound
 pub mod Tree
 pub mod DecidingWalk
 pub mod Deciding
+pub mod DecidingMeets
+pub mod DecidingContexts

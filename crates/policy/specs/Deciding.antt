@@ -1,4 +1,5 @@
 -- Deciding: what the contracts of `deciding` cite besides the decision.
+--   Operating k        k is an operator's number
 --   Labelled           a number, a text behind its length, and more: how rows, context entries and statements begin
 --   Finds run r f      r is the place of the context entry whose value was found; 0 where none was
 --   resultNumber x     a row's result: 0 holds, 1 key missing, 2 of another type, 3 no entry matches
@@ -6,13 +7,17 @@
 use mathlib.Core.Path.{_≡_}
 use mathlib.Core.List.{List, _∷_, _++_}
 use Prim.Native.Nat.{ℕ, _<_}
-use Rattle.policy.specs.Policy.{Value, Context}
-use Rattle.policy.specs.Held.{heldText, heldContext}
+use Rattle.policy.specs.Policy.{Operator, Value, Context}
+use Rattle.policy.specs.Held.{heldText, heldContext, operatorNumber}
 use Rattle.policy.specs.Lying.{Lies}
 use Rattle.policy.specs.Decision.{Why, missing, other-type, no-entry, Result, holds, fails}
 use Rattle.policy.specs.Decision.{Found, nothing, found, Part, none, action, resource, row}
 use Rattle.policy.specs.declared.deciding.Failing.{Failing}
 use Rattle.policy.specs.declared.deciding.Failing.the-variants.{Nothing, Action, Resource, Row}
+
+pub record Operating (k : ℕ) : Type 0 where
+  pub operator : Operator
+  pub is : k ≡ operatorNumber operator
 
 -- ---- places
 

@@ -4,12 +4,14 @@ ghost use mathlib.Core.List.{List};
 ghost use Prim.Native.Nat.{ℕ, _+_};
 ghost use lib.Dec.{leb};
 ghost use lib.ListN.{length};
-ghost use Rattle.policy.specs.Policy.{Value};
+ghost use Rattle.policy.specs.Policy.{Operator, Value, Context};
 ghost use Rattle.policy.specs.Forms.{same, sameKey};
 ghost use Rattle.policy.specs.Matching.{matches};
-ghost use Rattle.policy.specs.Held.{heldText, heldNumber, heldValue};
+ghost use Rattle.policy.specs.Held.{heldText, heldNumber, heldValue, heldList, heldContext};
+ghost use Rattle.policy.specs.Held.{operatorNumber, typeNumber, anyOf};
 ghost use Rattle.policy.specs.Lying.{Lies, Lying};
-ghost use Rattle.policy.specs.Deciding.{Labelled, heldLabelled};
+ghost use Rattle.policy.specs.Decision.{typed, meets, valueAt};
+ghost use Rattle.policy.specs.Deciding.{Operating, Labelled, heldLabelled, Finds};
 use crate::forms;
 use crate::limits;
 use crate::matching;
@@ -97,4 +99,96 @@ fn not_above_at(policy: &[u32], e: usize, request: &[u32], v: usize) -> bool
         return false;
     }
     request[v + 1] <= policy[e + 1]
+}
+
+// Does an operator compare with values of a type?
+fn typed(operator: u32, kind: u32) -> bool
+    ensures { λ r. ⌜ ((o : Operator) (v : Value) → operator ≡ operatorNumber o → kind ≡ typeNumber v → r ≡ typed o v) ⌝ }
+{
+    if operator == 3 {
+        return kind == 2;
+    }
+    kind == 1
+}
+
+// Does the entry at a place of the policy meet the value at a place of the request?
+fn meets_at(policy: &[u32], e: usize, operator: u32, request: &[u32], v: usize) -> bool
+    requires { ⌜ (Lying heldValue (now policy) e) × (Lying heldValue (now request) v) ⌝ }
+    ensures { λ r. ⌜ ((o : Operator) (x y : Value) → operator ≡ operatorNumber o → Lies (now (policy .entry)) e (heldValue x) → Lies (now (request .entry)) v (heldValue y) → r ≡ meets o x y) ⌝ }
+{
+    if request[v] >= limits::MARK {
+        if operator != 3 {
+            return false;
+        }
+        if policy[e] < limits::MARK {
+            return false;
+        }
+        return not_above_at(policy, e, request, v);
+    }
+    if policy[e] >= limits::MARK {
+        return false;
+    }
+    if operator == 1 {
+        return same_at(policy, e, request, v);
+    }
+    if operator == 2 {
+        return matches_at(policy, e, request, v);
+    }
+    false
+}
+
+// Does some entry of the list at a place of the policy match the text at a place of the request?
+fn some_matches(policy: &[u32], at: usize, request: &[u32], t: usize) -> bool
+    requires { ⌜ (Lying (heldList heldText) (now policy) at) × (Lying heldText (now request) t) ⌝ }
+    ensures { λ r. ⌜ ((xs : List (List ℕ)) (y : List ℕ) → Lies (now (policy .entry)) at (heldList heldText xs) → Lies (now (request .entry)) t (heldText y) → r ≡ anyOf (λ x. matches x y) xs) ⌝ }
+{
+    let n = policy[at] as usize;
+    let mut e = at + 1;
+    let mut i = 0usize;
+    while i < n {
+        if matches_at(policy, e, request, t) {
+            return true;
+        }
+        e = past_value(policy, e);
+        i = i + 1;
+    }
+    false
+}
+
+// Does some entry of the list at a place of the policy meet the value at a place of the request?
+fn some_meets(policy: &[u32], at: usize, operator: u32, request: &[u32], v: usize) -> bool
+    requires { ⌜ (Operating operator) × (Lying (heldList heldValue) (now policy) at) × (Lying heldValue (now request) v) ⌝ }
+    ensures { λ r. ⌜ ((o : Operator) (xs : List Value) (y : Value) → operator ≡ operatorNumber o → Lies (now (policy .entry)) at (heldList heldValue xs) → Lies (now (request .entry)) v (heldValue y) → r ≡ anyOf (λ x. meets o x y) xs) ⌝ }
+{
+    let n = policy[at] as usize;
+    let mut e = at + 1;
+    let mut i = 0usize;
+    while i < n {
+        if meets_at(policy, e, operator, request, v) {
+            return true;
+        }
+        e = past_value(policy, e);
+        i = i + 1;
+    }
+    false
+}
+
+// The place of the context entry that has the key at a place of the policy, in the list at a place of the request; 0
+// where none has it.
+fn key_place(policy: &[u32], k: usize, request: &[u32], at: usize) -> usize
+    requires { ⌜ (Lying heldText (now policy) k) × (Lying (heldList heldContext) (now request) at) ⌝ }
+    ensures { λ r. ⌜ ((x : List ℕ) (cs : List Context) → Lies (now (policy .entry)) k (heldText x) → Lies (now (request .entry)) at (heldList heldContext cs) → Finds (now (request .entry)) r (valueAt x cs)) ⌝ }
+{
+    let n = request[at] as usize;
+    let mut c = at + 1;
+    let mut i = 0usize;
+    while i < n {
+        if same_key_at(policy, k, request, c + 1) {
+            return c;
+        }
+        let v = behind_label(request, c);
+        c = past_value(request, v);
+        i = i + 1;
+    }
+    0
 }

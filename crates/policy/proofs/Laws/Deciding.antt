@@ -15,7 +15,8 @@ use Rattle.policy.specs.Policy.{Value, text, number, Row, Statement, Con
 use Rattle.policy.specs.Held.{heldText, heldNumber, heldValue, mark}
 use Rattle.policy.specs.Lying.{Lies}
 use Rattle.policy.specs.Deciding.{Labelled, heldLabelled}
-use Rattle.policy.proofs.Laws.Runs.{lies-inside, lies-first, lies-next, lies-end, lies-part, Named, named}
+use Rattle.policy.proofs.Laws.Runs.{lies-inside, lies-first, lies-next, lies-end, lies-part}
+use Rattle.policy.proofs.Laws.Runs.{lies-front, Named, named}
 
 -- ---- texts
 
@@ -54,6 +55,14 @@ pub labelled-past :
     {run : List ℕ} {p : ℕ} (x : Labelled) → Lies run p (heldLabelled x)
     → p + 2 + getD run (p + 1) 0 ≡ p + 2 + length (x .label)
 labelled-past {p = p} x l = ap (λ (k : ℕ). p + 2 + k) (labelled x l .count)
+
+module _ {run : List ℕ} {p : ℕ} (x : Labelled) (l : Lies run p (heldLabelled x)) where
+  pub label-lies : Lies run (p + 1) (heldText (x .label))
+  label-lies = lies-front (heldText (x .label)) (x .more) (lies-next l)
+
+  pub more-lies : (q : ℕ) → q ≡ p + 2 + length (x .label) → Lies run q (x .more)
+  more-lies q e =
+      subst (λ (z : ℕ). Lies run z (x .more)) (labelled-past x l ∙ sym e) (labelled x l .rest)
 
 -- ---- numbers by their halves
 

@@ -45,14 +45,26 @@ module _ {A B : Type 0} {h : A → List ℕ} {run : List ℕ} {n i p : ℕ} {g :
   head-lies : (t : Turn) → Lies run p (h (t .head))
   head-lies t = lies-front (h (t .head)) (heldEach h (t .tail)) (turn-lies t)
 
+  -- what is told of them
+  pub record Next : Type 0 where
+    pub head : A
+    pub tail : List A
+    pub lies : Lies run p (h head)
+    pub same : g (head ∷ tail) ≡ b
+
+  pub coming-now : i < n → Next
+  coming-now t =
+      let y = turn t in
+      record { head = y .head; tail = y .tail; lies = head-lies y; same = ap g (sym (y .is)) ∙ w .same }
+
   pub coming-lying : i < n → Lying h run p
   coming-lying t = let y = turn t in record { thing = y .head; lies = head-lies y }
 
   -- the next thing decides
   pub coming-decided : i < n → (v : B) → ((x : A) → Lies run p (h x) → (xs : List A) → g (x ∷ xs) ≡ v) → v ≡ b
   coming-decided t v s =
-      let y = turn t in
-      sym (s (y .head) (head-lies y) (y .tail)) ∙ ap g (sym (y .is)) ∙ w .same
+      let y = coming-now t in
+      sym (s (y .head) (y .lies) (y .tail)) ∙ y .same
 
   -- it is passed
   pub coming-next :
