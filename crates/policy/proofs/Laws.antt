@@ -52,3 +52,6 @@ pub mod DecidingWalk
 pub mod Deciding
 pub mod DecidingMeets
 pub mod DecidingContexts
+pub mod TreeRead
+pub mod TreeReadRows
+pub mod TreeReadPolicy

@@ -1,6 +1,7 @@
 -- Condition rows of the written form: under their operators they read back as the rows, in the same order.
 --   grouped-rows     the runs of one operator, one after the other, are the rows
 --   condition-tree   a condition reads back
+--   ValidGroup g     an operator and some rows of it, no two of one key
 use mathlib.Core.Path.{_≡_, refl, sym, ap, _∙_}
 use mathlib.Core.Bool.{Bool, true, false}
 use mathlib.Core.List.{List, [], _∷_}
@@ -35,9 +36,9 @@ row-tree r v =
     )
 
 -- a row of this operator
-record InRun (o : Operator) (r : Row) : Type 0 where
-  operator : r .operator ≡ o
-  valid : ValidRow r
+pub record InRun (o : Operator) (r : Row) : Type 0 where
+  pub operator : r .operator ≡ o
+  pub valid : ValidRow r
 
 run-tree : (o : Operator) {rs : List Row} → Each Row (InRun o) rs → members (rowOf o) (rowsTree rs) ≡ read rs
 unfolding members rowsTree
@@ -62,12 +63,12 @@ operator-tree StringLike = refl
 operator-tree NumericLessThanEquals = refl
 
 -- an operator and some rows of it
-abbrev Runs : Group → Type 0
+abbrev pub Runs : Group → Type 0
 Runs g = Some Row (InRun (g .operator)) (g .rows)
 
-record ValidGroup (g : Group) : Type 0 where
-  runs : Runs g
-  apart : differ sameRow (g .rows) ≡ true
+pub record ValidGroup (g : Group) : Type 0 where
+  pub runs : Runs g
+  pub apart : differ sameRow (g .rows) ≡ true
 
 group-tree : (g : Group) → ValidGroup g
     → groupOf (operatorWord (g .operator)) (object (rowsTree (g .rows))) ≡ read g
@@ -118,7 +119,7 @@ operator-same NumericLessThanEquals StringEquals e = absurd (apart (sym e))
 operator-same NumericLessThanEquals StringLike e = absurd (apart (sym e))
 operator-same NumericLessThanEquals NumericLessThanEquals e = refl
 
-each-some : {A : Type 0} {P : A → Type 0} {xs : List A} → Some A P xs → Each A P xs
+pub each-some : {A : Type 0} {P : A → Type 0} {xs : List A} → Some A P xs → Each A P xs
 each-some (first p ps) = more p ps
 
 alone : (r : Row) → ValidRow r → Some Row (InRun (r .operator)) (r ∷ [])
