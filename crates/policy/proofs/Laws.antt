@@ -55,3 +55,4 @@ pub mod DecidingContexts
 pub mod TreeRead
 pub mod TreeReadRows
 pub mod TreeReadPolicy
+pub mod TreeTrials

@@ -2,9 +2,11 @@
 --   tree-policy       from the tree
 --   written-whole     the bytes are a whole JSON text
 --   written-policy    and say the policy
-use mathlib.Core.Path.{_≡_, refl, ap, _∙_}
+--   written-unique    so no two policies have one written form
+use mathlib.Core.Path.{_≡_, refl, sym, ap, _∙_}
 use mathlib.Core.Bool.{true}
-use mathlib.Core.List.{[], _∷_}
+use mathlib.Core.List.{List, [], _∷_}
+use Prim.Native.Nat.{ℕ}
 use native.Mathlib.Omega.{arith}
 use Rattle.text.specs.Json.{Json, string, Members, no-members, named}
 use Rattle.text.specs.Decoding.{readOf, sequenceOf, unitsBehind, meaning, textOf, equal, sameText}
@@ -68,3 +70,9 @@ module _ (p : Policy) (v : Valid p) where
   unfolding writtenPolicy
   written-policy =
       ap policyOf (printed-contents (tree-sound p v) (omega (arith, tree-depth p))) ∙ tree-policy p v
+
+pub written-unique : (p q : Policy) → Valid p → Valid q → writtenPolicy p ≡ writtenPolicy q → p ≡ q
+written-unique p q v w e =
+    let k : read p ≡ read q =
+    sym (written-policy p v) ∙ ap (λ (s : List ℕ). policyOf (contents s)) e ∙ written-policy q w in
+    cc
