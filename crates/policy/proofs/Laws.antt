@@ -56,3 +56,5 @@ pub mod TreeRead
 pub mod TreeReadRows
 pub mod TreeReadPolicy
 pub mod TreeTrials
+pub mod DecidingRows
+pub mod DecidingStatement

@@ -3,15 +3,17 @@
 --   Labelled           a number, a text behind its length, and more: how rows, context entries and statements begin
 --   Finds run r f      r is the place of the context entry whose value was found; 0 where none was
 --   resultNumber x     a row's result: 0 holds, 1 key missing, 2 of another type, 3 no entry matches
---   failingOf x        a part of a statement as `deciding` tells it
+--   partBehind s r     the first part that does not hold, but for the Action;  failingOf x   as `deciding` tells it
 use mathlib.Core.Path.{_≡_}
 use mathlib.Core.List.{List, _∷_, _++_}
 use Prim.Native.Nat.{ℕ, _<_}
-use Rattle.policy.specs.Policy.{Operator, Value, Context}
-use Rattle.policy.specs.Held.{heldText, heldContext, operatorNumber}
+use Rattle.text.specs.Base.{pick}
+use Rattle.policy.specs.Policy.{Operator, Value, Context, Statement, Request}
+use Rattle.policy.specs.Held.{heldText, heldContext, operatorNumber, anyOf}
+use Rattle.policy.specs.Matching.{matches}
 use Rattle.policy.specs.Lying.{Lies}
 use Rattle.policy.specs.Decision.{Why, missing, other-type, no-entry, Result, holds, fails}
-use Rattle.policy.specs.Decision.{Found, nothing, found, Part, none, action, resource, row}
+use Rattle.policy.specs.Decision.{Found, nothing, found, Part, none, action, resource, row, rowsFrom}
 use Rattle.policy.specs.declared.deciding.Failing.{Failing}
 use Rattle.policy.specs.declared.deciding.Failing.the-variants.{Nothing, Action, Resource, Row}
 
@@ -40,6 +42,11 @@ Finds run r nothing = r ≡ 0
 Finds run r (found v) = FindsAt run r v
 
 -- ---- answers
+
+-- the part of a statement whose Action matches
+unfoldable pub partBehind : Statement → Request → Part
+partBehind s r =
+    pick (anyOf (λ e. matches e (r .resource)) (s .resources)) (rowsFrom 1 (s .rows) (r .context)) resource
 
 abbrev pub whyNumber : Why → ℕ
 whyNumber missing = 1

@@ -4,17 +4,19 @@ ghost use mathlib.Core.List.{List};
 ghost use Prim.Native.Nat.{ℕ, _+_};
 ghost use lib.Dec.{leb};
 ghost use lib.ListN.{length};
-ghost use Rattle.policy.specs.Policy.{Operator, Value, Context};
+ghost use Rattle.policy.specs.Policy.{Operator, Value, Row, Statement, Context, Request};
 ghost use Rattle.policy.specs.Forms.{same, sameKey};
 ghost use Rattle.policy.specs.Matching.{matches};
 ghost use Rattle.policy.specs.Held.{heldText, heldNumber, heldValue, heldList, heldContext};
-ghost use Rattle.policy.specs.Held.{operatorNumber, typeNumber, anyOf};
+ghost use Rattle.policy.specs.Held.{heldRow, heldStatement, heldRequest, operatorNumber, typeNumber, anyOf};
 ghost use Rattle.policy.specs.Lying.{Lies, Lying};
-ghost use Rattle.policy.specs.Decision.{typed, meets, valueAt};
-ghost use Rattle.policy.specs.Deciding.{Operating, Labelled, heldLabelled, Finds};
+ghost use Rattle.policy.specs.Decision.{typed, meets, valueAt, rowResult, rowsFrom, partOf};
+ghost use Rattle.policy.specs.Deciding.{Operating, Labelled, heldLabelled, Finds, resultNumber};
+ghost use Rattle.policy.specs.Deciding.{partBehind, failingOf};
 use crate::forms;
 use crate::limits;
 use crate::matching;
+use crate::runs;
 
 // Denied or allowed by a statement, counted from 1; or denied by none and allowed by none.
 pub enum Decision {
@@ -191,4 +193,72 @@ fn key_place(policy: &[u32], k: usize, request: &[u32], at: usize) -> usize
         i = i + 1;
     }
     0
+}
+
+// Whether the row at a place of the policy holds for the context entries at a place of the request: 0 it does, 1 its key
+// is missing, 2 the value is of another type, 3 no entry meets it.
+fn row_result(policy: &[u32], p: usize, request: &[u32], contexts: usize) -> u32
+    requires { ⌜ (Lying heldRow (now policy) p) × (Lying (heldList heldContext) (now request) contexts) ⌝ }
+    ensures { λ r. ⌜ ((x : Row) (cs : List Context) → Lies (now (policy .entry)) p (heldRow x) → Lies (now (request .entry)) contexts (heldList heldContext cs) → r ≡ resultNumber (rowResult x cs)) ⌝ }
+{
+    let c = key_place(policy, p + 1, request, contexts);
+    if c == 0 {
+        return 1;
+    }
+    let operator = policy[p];
+    if !typed(operator, request[c]) {
+        return 2;
+    }
+    let l = behind_label(policy, p);
+    let v = behind_label(request, c);
+    if some_meets(policy, l, operator, request, v) {
+        return 0;
+    }
+    3
+}
+
+// The first row that does not hold, of those in the list at a place of the policy.
+fn failing_row(policy: &[u32], at: usize, request: &[u32], contexts: usize) -> Failing
+    requires { ⌜ (Lying (heldList heldRow) (now policy) at) × (Lying (heldList heldContext) (now request) contexts) ⌝ }
+    ensures { λ r. ⌜ ((xs : List Row) (cs : List Context) → Lies (now (policy .entry)) at (heldList heldRow xs) → Lies (now (request .entry)) contexts (heldList heldContext cs) → r ≡ failingOf (rowsFrom 1 xs cs)) ⌝ }
+{
+    let n = policy[at] as usize;
+    let mut p = at + 1;
+    let mut i = 0usize;
+    while i < n {
+        let why = row_result(policy, p, request, contexts);
+        if why != 0 {
+            return Failing::Row(i + 1, why);
+        }
+        p = runs::row(policy, p).past;
+        i = i + 1;
+    }
+    Failing::Nothing
+}
+
+// The first part of the statement at a place that does not hold, but for its Action.
+fn failing_behind(policy: &[u32], p: usize, request: &[u32]) -> Failing
+    requires { ⌜ (Lying heldStatement (now policy) p) × (Lying heldRequest (now request) 0) ⌝ }
+    ensures { λ r. ⌜ ((x : Statement) (q : Request) → Lies (now (policy .entry)) p (heldStatement x) → Lies (now (request .entry)) 0 (heldRequest q) → r ≡ failingOf (partBehind x q)) ⌝ }
+{
+    let l = runs::list(policy, behind_label(policy, p)).past;
+    let t = past_value(request, 0);
+    if !some_matches(policy, l, request, t) {
+        return Failing::Resource;
+    }
+    let w = runs::list(policy, l).past;
+    let contexts = past_value(request, t);
+    failing_row(policy, w, request, contexts)
+}
+
+// The first part of the statement at a place that does not hold.
+pub fn first_failing(policy: &[u32], p: usize, request: &[u32]) -> Failing
+    requires { ⌜ (Lying heldStatement (now policy) p) × (Lying heldRequest (now request) 0) ⌝ }
+    ensures { λ r. ⌜ ((x : Statement) (q : Request) → Lies (now (policy .entry)) p (heldStatement x) → Lies (now (request .entry)) 0 (heldRequest q) → r ≡ failingOf (partOf x q)) ⌝ }
+{
+    let a = behind_label(policy, p);
+    if !some_matches(policy, a, request, 0) {
+        return Failing::Action;
+    }
+    failing_behind(policy, p, request)
 }

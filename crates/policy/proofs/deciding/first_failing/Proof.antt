@@ -1,0 +1,40 @@
+-- The Action list lies behind the Sid, and the request's action at its beginning.
+use mathlib.Core.Path.{sym, _∙_}
+use borrow.Author.Tests.{not-true, not-false}
+use Rattle.policy.proofs.Laws.DecidingStatement.{statement-lying, actions-lie, actions-texts, action-lies}
+use Rattle.policy.proofs.Laws.DecidingStatement.{request-action, part-action, part-behind}
+use borrow.Author.Needs.{needs}
+use Rattle.policy.proofs.deciding.first_failing.Statement.{statement}
+use Rattle.policy.proofs.deciding.first_failing.Tie as tie
+
+behind-label-requires : tie.Need-behind-label-requires
+behind-label-requires c κs = statement-lying (c .before .before .pre .0)
+
+some-matches-requires : tie.Need-some-matches-requires
+some-matches-requires c κs = (actions-texts (c .before .before .before .pre .0) (c .behind-label .ensures), request-action (c .before .before .before .pre .1))
+
+returns : tie.Need-returns
+returns c =
+    λ x q l m.
+    part-action x q (sym (c .before .some-matches .ensures (x .actions) (q .action)
+    (actions-lie x l (c .before .before .behind-label .ensures)) (action-lies q m)) ∙ not-true (c .before .some-matches .result) (c .if1 .taken))
+
+failing-behind-requires : tie.Need-failing-behind-requires
+failing-behind-requires c κs = search needs
+
+returns-2 : tie.Need-returns-2
+returns-2 c =
+    λ x q l m.
+    c .failing-behind .ensures x q l m
+    ∙ part-behind x q (sym (c .before .before .some-matches .ensures (x .actions) (q .action)
+    (actions-lie x l (c .before .before .before .behind-label .ensures)) (action-lies q m)) ∙ not-false (c .before .before .some-matches .result) (c .before .if1 .left))
+
+pub first-failing-spec : {M : Type 1} → statement M
+first-failing-spec =
+    tie.close
+    (tie.spec
+    behind-label-requires
+    some-matches-requires
+    returns
+    failing-behind-requires
+    returns-2)
