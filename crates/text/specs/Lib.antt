@@ -1,4 +1,4 @@
--- What the contracts of `text` cite. To be believed are the first nine; the others are executable twins, proved equal.
+-- What the contracts of `text` cite. To be believed are the first ten; the others are executable twins, proved equal.
 pub mod Base
 pub mod Utf8
 pub mod Strings
