@@ -58,3 +58,4 @@ pub mod TreeReadPolicy
 pub mod TreeTrials
 pub mod DecidingRows
 pub mod DecidingStatement
+pub mod DecidingOrder

@@ -5,8 +5,9 @@
 --   resultNumber x     a row's result: 0 holds, 1 key missing, 2 of another type, 3 no entry matches
 --   partBehind s r     the first part that does not hold, but for the Action;  failingOf x   as `deciding` tells it
 use mathlib.Core.Path.{_≡_}
+use mathlib.Core.Bool.{Bool, true, false}
 use mathlib.Core.List.{List, _∷_, _++_}
-use Prim.Native.Nat.{ℕ, _<_}
+use Prim.Native.Nat.{ℕ, zero, suc, _<_}
 use Rattle.text.specs.Base.{pick}
 use Rattle.policy.specs.Policy.{Operator, Value, Context, Statement, Request}
 use Rattle.policy.specs.Held.{heldText, heldContext, operatorNumber, anyOf}
@@ -62,3 +63,14 @@ failingOf none = Nothing
 failingOf action = Action
 failingOf resource = Resource
 failingOf (row k w) = Row k (whyNumber w)
+
+abbrev pub isNothing : Failing → Bool
+isNothing Nothing = true
+isNothing Action = false
+isNothing Resource = false
+isNothing (Row k w) = false
+
+-- the number of a statement, or another's where it is 0, that of none
+abbrev pub orElse : ℕ → ℕ → ℕ
+orElse zero b = b
+orElse (suc a) b = suc a

@@ -4,15 +4,15 @@ ghost use mathlib.Core.List.{List};
 ghost use Prim.Native.Nat.{ℕ, _+_};
 ghost use lib.Dec.{leb};
 ghost use lib.ListN.{length};
-ghost use Rattle.policy.specs.Policy.{Operator, Value, Row, Statement, Context, Request};
+ghost use Rattle.policy.specs.Policy.{Operator, Value, Row, Statement, Policy, Context, Request};
 ghost use Rattle.policy.specs.Forms.{same, sameKey};
 ghost use Rattle.policy.specs.Matching.{matches};
 ghost use Rattle.policy.specs.Held.{heldText, heldNumber, heldValue, heldList, heldContext};
-ghost use Rattle.policy.specs.Held.{heldRow, heldStatement, heldRequest, operatorNumber, typeNumber, anyOf};
+ghost use Rattle.policy.specs.Held.{heldRow, heldStatement, held, heldRequest, operatorNumber, typeNumber, anyOf};
 ghost use Rattle.policy.specs.Lying.{Lies, Lying};
-ghost use Rattle.policy.specs.Decision.{typed, meets, valueAt, rowResult, rowsFrom, partOf};
+ghost use Rattle.policy.specs.Decision.{typed, meets, valueAt, rowResult, rowsFrom, partOf, isNone, decide};
 ghost use Rattle.policy.specs.Deciding.{Operating, Labelled, heldLabelled, Finds, resultNumber};
-ghost use Rattle.policy.specs.Deciding.{partBehind, failingOf};
+ghost use Rattle.policy.specs.Deciding.{partBehind, failingOf, isNothing, orElse};
 use crate::forms;
 use crate::limits;
 use crate::matching;
@@ -261,4 +261,79 @@ pub fn first_failing(policy: &[u32], p: usize, request: &[u32]) -> Failing
         return Failing::Action;
     }
     failing_behind(policy, p, request)
+}
+
+fn is_nothing(f: Failing) -> bool
+    ensures { λ r. ⌜ r ≡ isNothing f ⌝ }
+{
+    match f {
+        Failing::Nothing => true,
+        Failing::Action => false,
+        Failing::Resource => false,
+        Failing::Row(_, _) => false,
+    }
+}
+
+// Does every part of the statement at a place hold, but for its Action?
+fn holds_behind(policy: &[u32], p: usize, request: &[u32]) -> bool
+    requires { ⌜ (Lying heldStatement (now policy) p) × (Lying heldRequest (now request) 0) ⌝ }
+    ensures { λ r. ⌜ ((x : Statement) (q : Request) → Lies (now (policy .entry)) p (heldStatement x) → Lies (now (request .entry)) 0 (heldRequest q) → r ≡ isNone (partBehind x q)) ⌝ }
+{
+    is_nothing(failing_behind(policy, p, request))
+}
+
+// A statement's number, or another's where it is 0, that of none.
+fn or_else(a: usize, b: usize) -> usize
+    ensures { λ r. ⌜ r ≡ orElse a b ⌝ }
+{
+    if a == 0 {
+        return b;
+    }
+    a
+}
+
+// The statement that decides: the first Deny that matches; where none does, the first Allow that matches.
+pub fn decide(policy: &[u32], request: &[u32]) -> Decision
+    requires { ⌜ (Lying held (now policy) 0) × (Lying heldRequest (now request) 0) ⌝ }
+    ensures { λ r. ⌜ ((x : Policy) (q : Request) → Lies (now (policy .entry)) 0 (held x) → Lies (now (request .entry)) 0 (heldRequest q) → r ≡ decide x q) ⌝ }
+{
+    let n = policy[0] as usize;
+    let mut p = 1usize;
+    let mut i = 0usize;
+    let mut allowed = 0usize;
+    let denied = 'statements: loop {
+        if i == n {
+            break 'statements 0;
+        }
+        let l = behind_label(policy, p);
+        let m = policy[l] as usize;
+        let mut e = l + 1;
+        let mut j = 0usize;
+        let matching = 'entries: loop {
+            if j == m {
+                break 'entries 0;
+            }
+            if matches_at(policy, e, request, 0) {
+                if !holds_behind(policy, p, request) {
+                    break 'entries 0;
+                }
+                if policy[p] == 2 {
+                    break 'statements i + 1;
+                }
+                break 'entries i + 1;
+            }
+            e = past_value(policy, e);
+            j = j + 1;
+        };
+        allowed = or_else(allowed, matching);
+        p = runs::statement(policy, p).past;
+        i = i + 1;
+    };
+    if denied != 0 {
+        return Decision::Denied(denied);
+    }
+    if allowed != 0 {
+        return Decision::Allowed(allowed);
+    }
+    Decision::Implicit
 }

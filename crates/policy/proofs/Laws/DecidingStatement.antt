@@ -183,7 +183,7 @@ module _ (x : Statement) (q : Request) where
   unfolding partBehind
   behind-rows e = sym (ap (λ (b : Bool). failingOf (pick b rowsPart resource)) e)
 
-  part-is : partOf x q ≡ pick actionMatches (partBehind x q) action
+  pub part-is : partOf x q ≡ pick actionMatches (partBehind x q) action
   unfolding partOf partBehind
   part-is = refl
 

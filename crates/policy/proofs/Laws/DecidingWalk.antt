@@ -25,6 +25,9 @@ coming all c l = record { rest = all; lies = l; count = omega arith; same = refl
 
 module _ {A B : Type 0} {h : A → List ℕ} {run : List ℕ} {n i p : ℕ} {g : List A → B} {b : B}
     (w : Coming h run n i p g b) where
+  pub coming-more : (i ≡ n → ⊥) → i < n
+  coming-more h = omega (arith, w .count, h)
+
   -- the next thing, and those behind it
   record Turn : Type 0 where
     pub head : A
@@ -99,3 +102,12 @@ module _ {A : Type 0} (f : A → Bool) (x : A) (xs : List A) where
   pub any-on : f x ≡ false → anyOf f (x ∷ xs) ≡ anyOf f xs
   unfolding anyOf
   any-on e = ap (λ (t : Bool). either t (anyOf f xs)) e
+
+module _ {A : Type 0} {h : A → List ℕ} {run : List ℕ} {n i p : ℕ} (f : A → Bool) {b : Bool}
+    (w : Coming h run n i p (anyOf f) b) where
+  pub some-is : i < n → {r : Bool} → ((x : A) → Lies run p (h x) → r ≡ f x) → r ≡ true → b ≡ true
+  some-is t s e = sym (coming-decided w t true (λ x l ys. any-here f x ys (sym (s x l) ∙ e)))
+
+  pub none-is : n ≤ i → b ≡ false
+  unfolding anyOf
+  none-is t = sym (coming-end w t)
