@@ -167,6 +167,19 @@ fn checksum(bytes: &[u8]) -> u64 {
     })
 }
 
+/// A folder of outside files, where it is at hand: beside the checkout. Says so
+/// where it is not.
+pub fn at_hand(folder: &str) -> Option<PathBuf> {
+    let package = Path::new(env!("CARGO_MANIFEST_DIR"));
+    let checkout = package.parent()?.parent()?;
+    let path = checkout.parent()?.join("shared/corpus").join(folder);
+    if !path.is_dir() {
+        println!("no {folder} corpus beside the checkout: skipped");
+        return None;
+    }
+    Some(path)
+}
+
 /// The lines of a log that are not empty.
 pub fn lines_of(log: &[u8]) -> impl Iterator<Item = &[u8]> {
     log.split(|&byte| byte == b'\n')

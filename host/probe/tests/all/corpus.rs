@@ -1,6 +1,7 @@
 //! Files that others wrote, where they stand beside the checkout.
 
 use crate::{compare_cuts, compare_replaced};
+use second::corpus::at_hand;
 use std::fs;
 use std::io;
 use std::path::{Path, PathBuf};
@@ -11,8 +12,7 @@ const OTHERS: &[u8] = b"\"\\[]{},0e\0\n \x7F\x80\xC3\xED\xF0";
 
 #[test]
 fn files_of_json_suites_agree() {
-    let Some(folder) = suites() else {
-        println!("no shared/corpus/json beside the checkout: skipped");
+    let Some(folder) = at_hand("json") else {
         return;
     };
     let mut files = Vec::new();
@@ -23,12 +23,6 @@ fn files_of_json_suites_agree() {
         compare_cuts(&text);
         compare_replaced(&text, 300, OTHERS.iter().copied());
     }
-}
-
-fn suites() -> Option<PathBuf> {
-    let checkout = Path::new(env!("CARGO_MANIFEST_DIR")).parent()?.parent()?;
-    let folder = checkout.parent()?.join("shared/corpus/json");
-    folder.is_dir().then_some(folder)
 }
 
 fn find_files(folder: &Path, files: &mut Vec<PathBuf>) -> io::Result<()> {

@@ -1,23 +1,15 @@
 //! Files that others wrote, where they are at hand: beside the checkout.
 
 use crate::common::{allow, record};
-use second::corpus::{run_json_suite, run_policies};
+use second::corpus::{at_hand, run_json_suite, run_policies};
 use second::implementation::Second;
-use std::path::{Path, PathBuf};
-
-fn corpus(folder: &str) -> Option<PathBuf> {
-    let host = Path::new(env!("CARGO_MANIFEST_DIR")).parent()?;
-    let path = host.parent()?.parent()?.join("shared/corpus").join(folder);
-    if !path.is_dir() {
-        println!("no {folder} corpus beside the checkout: skipped");
-        return None;
-    }
-    Some(path)
-}
+use std::path::Path;
 
 #[test]
 fn json_suites_agree() {
-    let Some(folder) = corpus("json") else { return };
+    let Some(folder) = at_hand("json") else {
+        return;
+    };
     let report = run_json_suite(&Second, &folder).unwrap();
     assert_eq!(report.differences, 0, "{:#?}", report.lines);
     assert!(report.agreements > 0);
@@ -25,7 +17,7 @@ fn json_suites_agree() {
 
 #[test]
 fn policies_agree() {
-    let Some(folder) = corpus("policies") else {
+    let Some(folder) = at_hand("policies") else {
         return;
     };
     let report = run_policies(&Second, &folder, None).unwrap();
