@@ -5,10 +5,8 @@
 
 #![deny(unsafe_code)]
 
-mod compare;
 mod linked;
 
-pub use compare::{compare, Comparison};
 use linked::Answer;
 use second::Scan;
 

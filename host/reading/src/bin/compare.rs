@@ -1,4 +1,5 @@
-//! Runs the proved scan and the second implementation's on your own data.
+//! Runs the proved scan, the proved readers of policies and of records, and the
+//! second implementation's on your own data.
 //!
 //! ```text
 //! compare FOLDER [LOG ..]   every file below a folder, every line of each log
@@ -17,7 +18,7 @@ fn main() -> ExitCode {
         eprintln!("usage: compare FOLDER [LOG ..]");
         return ExitCode::from(2);
     };
-    match probe::compare(folder, logs) {
+    match reading::compare(folder, logs) {
         Ok(comparison) => {
             let different = comparison.differences.len();
             comparison

@@ -1,0 +1,5 @@
+//! Links the proved reader of policies and records.
+
+fn main() {
+    archive::link("policy_probe", &["text", "policy", "policy_probe"]);
+}
