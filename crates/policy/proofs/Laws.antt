@@ -59,3 +59,4 @@ pub mod TreeTrials
 pub mod DecidingRows
 pub mod DecidingStatement
 pub mod DecidingOrder
+pub mod Operations

@@ -22,3 +22,4 @@ pub mod WrittenForm
 pub mod Valid
 pub mod Decision
 pub mod Deciding
+pub mod Operations

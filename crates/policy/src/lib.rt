@@ -8,6 +8,7 @@ pub mod limits;
 pub mod matching;
 pub mod members;
 pub mod numbers;
+pub mod operations;
 pub mod reading;
 pub mod refusals;
 pub mod requests;
