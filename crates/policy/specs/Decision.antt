@@ -1,8 +1,8 @@
 -- The decision: document 01, "The decision".
---   rowResult r cs   whether a row holds for the context entries cs, and if not why: key missing, of another type, or no
---                    entry matches
---   partOf s r       the first part of the statement s that does not hold for the request r, rows counted from 1; `none`
---                    where the statement matches
+--   rowResult r cs   whether a row holds for the context entries cs, and if not why: key missing, of another type, or
+--                    no entry matches
+--   partOf s r       the first part of the statement s that does not hold for the request r, rows counted from 1;
+--                    `none` where the statement matches
 --   decide p r       denied or allowed by a statement, counted from 1; or implicitly denied
 -- Differs from 01: nowhere.
 use mathlib.Core.Bool.{Bool, true, false}

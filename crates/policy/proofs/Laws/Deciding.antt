@@ -1,7 +1,7 @@
 -- What the decision reads in the runs: texts, numbers by their halves, and what begins with a label.
-use mathlib.Core.Path.{_≡_, refl, sym, ap, _∙_, subst}
+use mathlib.Core.Path.{_≡_, sym, ap, _∙_, subst}
 use mathlib.Core.Bool.{Bool, true, false}
-use mathlib.Core.List.{List, [], _∷_, _++_}
+use mathlib.Core.List.{List}
 use Prim.Native.Nat.{ℕ, _+_, _-_, _*_, _/_, _%_, _≤_, _<_}
 use native.Mathlib.Nat.{div-add-mod', mod-lt}
 use native.Mathlib.Decide.{decLe}
@@ -11,8 +11,7 @@ use lib.ListN.{length, getD}
 use borrow.Author.Tests.{le-leb, lt-leb}
 use borrow.Rule.Slice.PartMut.{midOf}
 use Rattle.policy.specs.Limits.{runNumbers}
-use Rattle.policy.specs.Policy.{Value, text, number, Row, Statement, Context}
-use Rattle.policy.specs.Held.{heldText, heldNumber, heldValue, mark}
+use Rattle.policy.specs.Held.{heldText, heldNumber}
 use Rattle.policy.specs.Lying.{Lies}
 use Rattle.policy.specs.Deciding.{Labelled, heldLabelled}
 use Rattle.policy.proofs.Laws.Runs.{lies-inside, lies-first, lies-next, lies-end, lies-part}

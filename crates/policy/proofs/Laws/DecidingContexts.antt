@@ -10,8 +10,8 @@ use Rattle.policy.specs.Forms.{sameKey}
 use Rattle.policy.specs.Policy.{Value, Context}
 use Rattle.policy.specs.Held.{heldText, heldValue, heldContext, typeNumber}
 use Rattle.policy.specs.Lying.{Lies, Lying}
-use Rattle.policy.specs.Decision.{Found, nothing, found, valueAt}
-use Rattle.policy.specs.Deciding.{Labelled, heldLabelled, FindsAt, Finds}
+use Rattle.policy.specs.Decision.{Found, found, valueAt}
+use Rattle.policy.specs.Deciding.{Labelled, heldLabelled, Finds}
 use Rattle.policy.proofs.Laws.Deciding.{label-lies, more-lies}
 
 abbrev contextLabelled : Context → Labelled

@@ -1,11 +1,11 @@
 -- Values in the runs, told apart by the mark of a number, and what an operator makes of them.
 use mathlib.Core.Path.{_≡_, refl, sym, ap, _∙_, subst}
-use mathlib.Core.Bool.{Bool, true, false}
+use mathlib.Core.Bool.{Bool, false}
 use mathlib.Core.List.{List}
-use Prim.Native.Nat.{ℕ, _+_, _≤_, _<_}
+use Prim.Native.Nat.{ℕ, _≤_, _<_}
 use native.Mathlib.Omega.{arith}
 use lib.Dec.{leb, eqb}
-use lib.ListN.{length, getD}
+use lib.ListN.{getD}
 use Rattle.policy.specs.Forms.{same}
 use Rattle.policy.specs.Matching.{matches}
 use Rattle.policy.specs.Policy.{Operator, StringEquals, StringLike, NumericLessThanEquals}

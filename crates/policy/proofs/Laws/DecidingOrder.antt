@@ -1,7 +1,7 @@
 -- The order of the decision: statement by statement up to the first Deny that matches, with the first Allow in mind.
 use mathlib.Core.Path.{_≡_, refl, sym, ap, _∙_}
 use mathlib.Core.Bool.{Bool, true, false}
-use mathlib.Core.List.{List, [], _∷_}
+use mathlib.Core.List.{[], _∷_}
 use Prim.Native.Nat.{ℕ, zero, suc, _+_}
 use native.Mathlib.Numerals.{add-one}
 use native.Mathlib.Omega.{arith}
@@ -9,8 +9,8 @@ use Rattle.text.specs.Base.{pick}
 use Rattle.policy.specs.Policy.{Effect, Allow, Deny, Statement, Policy, Request}
 use Rattle.policy.specs.Matching.{matches}
 use Rattle.policy.specs.Held.{effectNumber, anyOf}
-use Rattle.policy.specs.Decision.{Part, none, action, resource, row, partOf, isNone, sameEffect, firstOf, byAllow}
-use Rattle.policy.specs.Decision.{byDeny, decide}
+use Rattle.policy.specs.Decision.{Part, none, action, resource, row, partOf, isNone, sameEffect, firstOf, byDeny}
+use Rattle.policy.specs.Decision.{decide}
 use Rattle.policy.specs.Deciding.{partBehind, failingOf, isNothing, orElse}
 use Rattle.policy.specs.declared.deciding.Decision.{Decision}
 use Rattle.policy.specs.declared.deciding.Decision.the-variants.{Denied, Allowed, Implicit}

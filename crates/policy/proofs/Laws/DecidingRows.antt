@@ -8,17 +8,17 @@ use native.Mathlib.Omega.{arith}
 use lib.ListN.{length, getD}
 use Rattle.text.specs.Base.{pick}
 use Rattle.policy.specs.Policy.{Value, Row, Context}
-use Rattle.policy.specs.Held.{heldText, heldValue, heldList, heldRow, heldContext, operatorNumber, typeNumber, anyOf}
+use Rattle.policy.specs.Held.{heldText, heldValue, heldList, heldRow, heldContext, operatorNumber}
+use Rattle.policy.specs.Held.{typeNumber, anyOf}
 use Rattle.policy.specs.Lying.{Lies, Lying}
 use Rattle.policy.specs.Decision.{Result, holds, fails, missing, no-entry, other-type, Found, nothing, found}
 use Rattle.policy.specs.Decision.{typed, meets, resultWith, rowResult, Part, behindRow, rowsFrom}
 use Rattle.policy.specs.Deciding.{Operating, Labelled, heldLabelled, FindsAt, Finds}
-use Rattle.policy.specs.Deciding.{whyNumber, resultNumber, failingOf}
-use Rattle.policy.specs.declared.deciding.Failing.{Failing}
+use Rattle.policy.specs.Deciding.{resultNumber, failingOf}
 use Rattle.policy.specs.declared.deciding.Failing.the-variants as F
 use Rattle.policy.proofs.Laws.Runs.{lies-first, lies-inside}
 use Rattle.policy.proofs.Laws.Deciding.{label-lies, more-lies}
-use Rattle.policy.proofs.Laws.DecidingContexts.{BehindLabel, context-lying, value-lies}
+use Rattle.policy.proofs.Laws.DecidingContexts.{BehindLabel, value-lies}
 
 -- ---- where a row's parts lie
 

@@ -3,17 +3,15 @@ use mathlib.Core.Path.{_≡_, refl, sym, ap, _∙_, subst}
 use mathlib.Core.Bool.{Bool, true, false}
 use mathlib.Core.List.{List, [], _∷_, _++_, map}
 use Prim.Native.Nat.{ℕ, _+_, _<_}
-use native.Mathlib.Omega.{arith}
 use lib.ListN.{length, getD, length-map}
 use Rattle.text.specs.Base.{pick}
-use Rattle.policy.specs.Policy.{Value, text, Row, Statement, Context, Request}
+use Rattle.policy.specs.Policy.{text, Statement, Request}
 use Rattle.policy.specs.Matching.{matches}
 use Rattle.policy.specs.Held.{heldText, heldEach, heldValue, heldList, heldRow, heldStatement, heldContext}
 use Rattle.policy.specs.Held.{heldRequest, effectNumber, anyOf}
 use Rattle.policy.specs.Lying.{Lies, Lying}
 use Rattle.policy.specs.Decision.{Part, action, resource, rowsFrom, partOf}
 use Rattle.policy.specs.Deciding.{Labelled, heldLabelled, partBehind, failingOf}
-use Rattle.policy.specs.declared.deciding.Failing.{Failing}
 use Rattle.policy.specs.declared.deciding.Failing.the-variants as F
 use Rattle.policy.specs.declared.runs.Seen.{Seen}
 use Rattle.policy.proofs.Laws.Runs.{lies-front, lies-back, lies-first, lies-inside}

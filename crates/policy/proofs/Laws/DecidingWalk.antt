@@ -4,14 +4,14 @@ use mathlib.Core.Bool.{Bool, true, false}
 use mathlib.Core.List.{List, [], _∷_, _++_}
 use Prim.Native.Nat.{ℕ, _+_, _≤_, _<_}
 use native.Mathlib.Omega.{arith}
-use lib.ListN.{length}
+use lib.ListN.{length, getD}
 use Rattle.policy.specs.Forms.{either}
-use Rattle.policy.specs.Held.{heldEach, anyOf}
-use Rattle.policy.specs.Lying.{Lies, Lying, LyingMany}
-use Rattle.policy.proofs.Laws.Runs.{lies-front, lies-back}
+use Rattle.policy.specs.Held.{heldEach, heldList, anyOf}
+use Rattle.policy.specs.Lying.{Lies, Lying}
+use Rattle.policy.proofs.Laws.Runs.{lies-front, lies-back, lies-first, lies-next}
 
--- Of n things, each held by h, i are passed and the others lie from p on. What g tells of those still to come is b, what
--- is to be told of all.
+-- Of n things, each held by h, i are passed and the others lie from p on. What g tells of those still to come is b,
+-- which is to be told of all.
 pub record Coming {A B : Type 0} (h : A → List ℕ) (run : List ℕ) (n i p : ℕ) (g : List A → B) (b : B) : Type 0 where
   pub rest : List A
   pub lies : Lies run p (heldEach h rest)
@@ -22,6 +22,15 @@ pub coming :
     {A B : Type 0} {h : A → List ℕ} {run : List ℕ} {n p : ℕ} {g : List A → B} (all : List A)
     → n ≡ length all → Lies run p (heldEach h all) → Coming h run n 0 p g (g all)
 coming all c l = record { rest = all; lies = l; count = omega arith; same = refl }
+
+-- of a list, behind its number
+pub coming-list :
+    {A B : Type 0} {h : A → List ℕ} {run : List ℕ} {p : ℕ} {g : List A → B} (y : Lying (heldList h) run p)
+    → Coming h run (getD run p 0) 0 (p + 1) g (g (y .thing))
+coming-list y = coming (y .thing) (lies-first (y .lies)) (lies-next (y .lies))
+
+abbrev pub lying : {A : Type 0} {h : A → List ℕ} {run : List ℕ} {p : ℕ} (x : A) → Lies run p (h x) → Lying h run p
+lying x l = record { thing = x; lies = l }
 
 module _ {A B : Type 0} {h : A → List ℕ} {run : List ℕ} {n i p : ℕ} {g : List A → B} {b : B}
     (w : Coming h run n i p g b) where
@@ -62,6 +71,9 @@ module _ {A B : Type 0} {h : A → List ℕ} {run : List ℕ} {n i p : ℕ} {g :
 
   pub coming-lying : i < n → Lying h run p
   coming-lying t = let y = turn t in record { thing = y .head; lies = head-lies y }
+
+  pub coming-one : (i ≡ n → ⊥) → Lying h run p
+  coming-one h = coming-lying (coming-more h)
 
   -- the next thing decides
   pub coming-decided : i < n → (v : B) → ((x : A) → Lies run p (h x) → (xs : List A) → g (x ∷ xs) ≡ v) → v ≡ b

@@ -1,6 +1,5 @@
 -- A number that is 0 is no statement's.
 use Rattle.policy.proofs.Laws.DecidingOrder.{or-first, or-kept}
-use borrow.Author.Needs.{needs}
 use Rattle.policy.proofs.deciding.or_else.Statement.{statement}
 use Rattle.policy.proofs.deciding.or_else.Tie as tie
 

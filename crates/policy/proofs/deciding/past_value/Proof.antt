@@ -12,19 +12,25 @@ shared-slice-read-n : tie.Need-shared-slice-read-n
 shared-slice-read-n c = value-inside (c .before .pre .thing) (c .before .pre .lies)
 
 add-result : tie.Need-add-result
-add-result c = let y = value-inside (c .before .before .pre .thing) (c .before .before .pre .lies) in omega (arith, y, c .before .before .pre .lies .bounded)
+add-result c =
+    let start = c .before .before in
+    omega (arith, value-inside (start .pre .thing) (start .pre .lies), start .pre .lies .bounded)
 
 returns : tie.Need-returns
 returns c = λ x l. number-passes x l (c .if1 .taken) .past
 
 add-result-2 : tie.Need-add-result-2
-add-result-2 c = let y = value-inside (c .before .before .pre .thing) (c .before .before .pre .lies) in omega (arith, y, c .before .before .pre .lies .bounded)
+add-result-2 c =
+    let start = c .before .before in
+    omega (arith, value-inside (start .pre .thing) (start .pre .lies), start .pre .lies .bounded)
 
 cast-result : tie.Need-cast-result
 cast-result c = search needs
 
 add-result-3 : tie.Need-add-result-3
-add-result-3 c = let y = value-inside (c .before .before .pre .thing) (c .before .before .pre .lies) in omega (arith, y, c .before .before .pre .lies .bounded, c .if1 .left)
+add-result-3 c =
+    let start = c .before .before in
+    omega (arith, value-inside (start .pre .thing) (start .pre .lies), start .pre .lies .bounded, c .if1 .left)
 
 returns-2 : tie.Need-returns-2
 returns-2 c = λ x l. text-passes x l (c .if1 .left) .past

@@ -1,25 +1,24 @@
 -- None of the entries passed meets the value; whichever entries lie in the list are the ones tried.
-use mathlib.Core.Path.{_≡_, sym, _∙_}
+use mathlib.Core.Path.{sym, _∙_}
 use mathlib.Core.Bool.{true}
-use mathlib.Core.List.{List}
-use Prim.Native.Nat.{ℕ, _+_, _-_}
+use Prim.Native.Nat.{_-_}
 use native.Mathlib.Omega.{arith}
-use lib.ListN.{length}
-use Rattle.policy.specs.Policy.{Operator, Value}
-use Rattle.policy.specs.Held.{heldValue, heldEach, anyOf, operatorNumber}
-use Rattle.policy.specs.Lying.{Lies}
+use Rattle.policy.specs.Held.{heldValue, heldList, anyOf}
+use Rattle.policy.specs.Lying.{Lying}
 use Rattle.policy.specs.Decision.{meets}
-use Rattle.policy.proofs.Laws.Runs.{lies-inside, lies-first, lies-next, list-lying}
-use Rattle.policy.proofs.Laws.DecidingWalk.{Coming, coming, coming-lying, coming-decided, coming-next}
-use Rattle.policy.proofs.Laws.DecidingWalk.{coming-end, any-here, any-on}
+use Rattle.policy.specs.Deciding.{Operating}
+use Rattle.policy.proofs.Laws.Runs.{lies-inside}
+use Rattle.policy.proofs.Laws.DecidingWalk.{Coming, coming-list, lying, coming-lying, coming-decided}
+use Rattle.policy.proofs.Laws.DecidingWalk.{coming-next, coming-end, any-here, any-on}
 use borrow.Author.Needs.{needs}
 use Rattle.policy.proofs.deciding.some_meets.Statement.{statement}
 use Rattle.policy.proofs.deciding.some_meets.Tie as tie
 
 abbrev Inv-loop : tie.InvT-loop
-Inv-loop policy at operator request v n e₀ i₀ e i = (o : Operator) → operator ≡ operatorNumber o → (y : Value) → Lies request v (heldValue y) → (xs : List Value)
-    → n ≡ length xs → Lies policy (at + 1) (heldEach heldValue xs)
-    → Coming heldValue policy n i e (anyOf (λ x. meets o x y)) (anyOf (λ x. meets o x y) xs)
+Inv-loop policy at operator request v n e₀ i₀ e i =
+    (o : Operating operator) (l : Lying (heldList heldValue) policy at) (y : Lying heldValue request v)
+    → Coming heldValue policy n i e (anyOf (λ x. meets (o .operator) x (y .thing)))
+    (anyOf (λ x. meets (o .operator) x (y .thing)) (l .thing))
 
 abbrev μ-loop : tie.MeasureT-loop
 μ-loop policy at operator request v n e₀ i₀ e i = n - i
@@ -31,50 +30,67 @@ shared-slice-read-n : tie.Need-shared-slice-read-n Inv-loop μ-loop
 shared-slice-read-n c = lies-inside (c .before .before .before .pre .1 .lies)
 
 cast-n : tie.Need-cast-n Inv-loop μ-loop
-cast-n c = omega (arith, c .shared-slice-known3 .given (c .before .before .before .args .at))
+cast-n c =
+    let start = c .before .before .before in
+    omega (arith, c .shared-slice-known3 .given (start .args .at))
 
 add-e : tie.Need-add-e Inv-loop μ-loop
-add-e c = let y = lies-inside (c .before .before .before .pre .1 .lies) in omega (arith, y, c .before .before .before .pre .1 .lies .bounded)
+add-e c =
+    let start = c .before .before .before in
+    omega (arith, lies-inside (start .pre .1 .lies), start .pre .1 .lies .bounded)
 
 loop-holds : tie.Need-loop-holds Inv-loop μ-loop
-loop-holds c = λ o f y m xs k l. coming xs k l
+loop-holds c = λ o l y. coming-list l
 
 meets-at-requires : tie.Need-meets-at-requires Inv-loop μ-loop
 meets-at-requires c κs =
-    let many = list-lying (c .before .before .before .before .before .pre .1) in
-    let w = c .before .loop .inv (c .before .before .before .before .before .pre .0 .operator) (c .before .before .before .before .before .pre .0 .is) (c .before .before .before .before .before .pre .2 .thing) (c .before .before .before .before .before .pre .2 .lies) (many .things) (many .count)
-    (many .lies) in
-    (coming-lying w (c .loop-test .taken), c .before .before .before .before .before .pre .2)
+    let start = c .before .before .before .before .before in
+    let w = c .before .loop .inv (start .pre .0) (start .pre .1) (start .pre .2) in
+    (coming-lying w (c .loop-test .taken), start .pre .2)
 
 returns : tie.Need-returns Inv-loop μ-loop
 returns c =
+    let at-loop-test = c .before .before in
+    let at-loop = at-loop-test .before in
     λ o xs y f l m.
-    coming-decided (c .before .before .before .loop .inv o f y m xs (lies-first l) (lies-next l)) (c .before .before .loop-test .taken) true
-    (λ x z ys. any-here (λ v. meets o v y) x ys (sym (c .before .meets-at .ensures o x y f z m) ∙ c .if1 .taken))
+    let w = at-loop .loop .inv (record { operator = o; is = f }) (lying xs l) (lying y m) in
+    coming-decided w (at-loop-test .loop-test .taken) true
+    (λ x z zs. any-here (λ u. meets o u y) x zs (sym (c .before .meets-at .ensures o x y f z m) ∙ c .if1 .taken))
 
 past-value-requires : tie.Need-past-value-requires Inv-loop μ-loop
 past-value-requires c κs =
-    let many = list-lying (c .before .before .before .before .before .before .before .pre .1) in
-    let w = c .before .before .before .loop .inv (c .before .before .before .before .before .before .before .pre .0 .operator) (c .before .before .before .before .before .before .before .pre .0 .is) (c .before .before .before .before .before .before .before .pre .2 .thing) (c .before .before .before .before .before .before .before .pre .2 .lies) (many .things) (many .count)
-    (many .lies) in
-    coming-lying w (c .before .before .loop-test .taken)
+    let at-loop-test = c .before .before in
+    let at-loop = at-loop-test .before in
+    let start = at-loop .before .before .before .before in
+    coming-lying (at-loop .loop .inv (start .pre .0) (start .pre .1) (start .pre .2)) (at-loop-test .loop-test .taken)
 
 add-i : tie.Need-add-i Inv-loop μ-loop
-add-i c = omega (arith, c .before .before .before .loop-test .taken, c .before .before .before .before .before .shared-slice-known3 .given (c .before .before .before .before .before .before .before .before .args .at))
+add-i c =
+    let at-loop-test = c .before .before .before in
+    let at-shared-slice-known3 = at-loop-test .before .before in
+    let start = at-shared-slice-known3 .before .before .before in
+    omega (arith, at-loop-test .loop-test .taken, at-shared-slice-known3 .shared-slice-known3 .given (start .args .at))
 
 loop-less : tie.Need-loop-less Inv-loop μ-loop
 loop-less c = search needs
 
 loop-again : tie.Need-loop-again Inv-loop μ-loop
 loop-again c =
-    λ o f y m xs k l.
-    coming-next (c .before .before .before .before .loop .inv o f y m xs k l) (c .before .before .before .loop-test .taken) _ (anyOf (λ x. meets o x y))
+    let at-meets-at = c .before .before in
+    let at-loop-test = at-meets-at .before in
+    let at-loop = at-loop-test .before in
+    λ o l y.
+    coming-next (at-loop .loop .inv o l y) (at-loop-test .loop-test .taken) _
+    (anyOf (λ x. meets (o .operator) x (y .thing)))
     (λ x z. c .past-value .ensures x z)
-    (λ x z ys. any-on (λ v. meets o v y) x ys (sym (c .before .before .meets-at .ensures o x y f z m) ∙ c .before .if1 .left))
+    (λ x z zs. any-on (λ u. meets (o .operator) u (y .thing)) x zs
+    (sym (at-meets-at .meets-at .ensures (o .operator) x (y .thing) (o .is) z (y .lies)) ∙ c .before .if1 .left))
 
 returns-2 : tie.Need-returns-2 Inv-loop μ-loop
 unfolding anyOf
-returns-2 c = λ o xs y f l m. coming-end (c .before .loop .inv o f y m xs (lies-first l) (lies-next l)) (c .loop-test .left)
+returns-2 c =
+    λ o xs y f l m.
+    coming-end (c .before .loop .inv (record { operator = o; is = f }) (lying xs l) (lying y m)) (c .loop-test .left)
 
 pub some-meets-spec : {M : Type 1} → statement M
 some-meets-spec =

@@ -1,6 +1,5 @@
 -- The third operator alone compares with numbers.
 use Rattle.policy.proofs.Laws.DecidingMeets.{typed-number, typed-text}
-use borrow.Author.Needs.{needs}
 use Rattle.policy.proofs.deciding.typed.Statement.{statement}
 use Rattle.policy.proofs.deciding.typed.Tie as tie
 
