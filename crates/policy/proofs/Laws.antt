@@ -60,3 +60,4 @@ pub mod DecidingRows
 pub mod DecidingStatement
 pub mod DecidingOrder
 pub mod Operations
+pub mod DecidingTrials

@@ -4,7 +4,7 @@
 --   partOf s r       the first part of the statement s that does not hold for the request r, rows counted from 1;
 --                    `none` where the statement matches
 --   decide p r       denied or allowed by a statement, counted from 1; or implicitly denied
--- Differs from 01: nowhere.
+-- Differs from 01: nowhere.  Pinned by: Laws/DecidingTrials.
 use mathlib.Core.Bool.{Bool, true, false}
 use mathlib.Core.List.{List, [], _∷_}
 use Prim.Native.Nat.{ℕ, zero, suc}

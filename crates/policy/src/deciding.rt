@@ -25,7 +25,8 @@ pub enum Decision {
     Implicit,
 }
 
-// The first part of a statement that does not hold: a row by its place in the statement, counted from 1, and why.
+// The first part of a statement that does not hold: a row by its place in the statement, counted from 1, and why not, by
+// the numbers of row_result.
 pub enum Failing {
     Nothing,
     Action,
