@@ -1,10 +1,10 @@
--- Numbers of a policy: where they stand, and the two halves that hold them.
+-- Numbers of a policy: where they stand, how great they are, and that there is room for their two halves.
 use mathlib.Core.Path.{_≡_, refl, sym, ap, _∙_, subst}
 use mathlib.Core.Bool.{Bool, true, false}
 use mathlib.Core.List.{List, [], _∷_}
 use Prim.Native.Nat.{ℕ, _+_, _/_, _%_, _≤_, _<_}
 use native.Mathlib.Omega.{arith}
-use lib.ListN.{length, set}
+use lib.ListN.{length}
 use Rattle.text.specs.Base.{part}
 use Rattle.text.specs.Json.{Json, null, bool, number, string, list, object, a-value, Reads, a-number, Spelt}
 use Rattle.text.specs.Contents.{kindOf, Stands}
@@ -16,10 +16,9 @@ use Rattle.policy.specs.Room.{cost}
 use Rattle.policy.specs.Told.{toldNumber}
 use Rattle.policy.specs.declared.numbers.Number.{Number}
 use Rattle.policy.specs.declared.numbers.Number.the-variants as N
-use Rattle.policy.specs.Holding.{isNumber, Extends, Kept}
+use Rattle.policy.specs.Holding.{isNumber}
 use Rattle.policy.proofs.Laws.Holding.{never}
 use Rattle.policy.proofs.Laws.Numbers.{number-small}
-use Rattle.policy.proofs.Laws.Extends.{extends-none, extends-front, extends-after}
 
 -- ---- a JSON number
 
@@ -83,8 +82,6 @@ json-room (number (c ∷ w)) e = omega arith
 json-room (string w) e = omega arith
 json-room (list ts) e = absurd (not-read e)
 json-room (object ms) e = absurd (not-read e)
-
--- ---- the run
 
 -- ---- the answer
 
