@@ -11,15 +11,10 @@ pub mod RecordLayout
 pub mod Held
 pub mod Room
 pub mod Lying
+pub mod Places
 pub mod Reading
 pub mod Told
 pub mod Holding
 pub mod Statements
 pub mod Requests
 pub mod Spoken
-pub mod Matching
-pub mod WrittenForm
-pub mod Valid
-pub mod Decision
-pub mod Deciding
-pub mod Operations

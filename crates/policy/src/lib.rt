@@ -1,14 +1,12 @@
-// Policies and records: layouts, limits, refusals and the decision. Knows nothing of logs and rooms.
+// Policies and records: layouts, limits and refusals, read from bytes into held runs. Knows nothing of logs and rooms.
 pub mod contexts;
-pub mod deciding;
 pub mod entries;
 pub mod forms;
 pub mod holding;
 pub mod limits;
-pub mod matching;
 pub mod members;
 pub mod numbers;
-pub mod operations;
+pub mod places;
 pub mod reading;
 pub mod refusals;
 pub mod requests;

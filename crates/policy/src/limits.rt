@@ -1,8 +1,10 @@
 // Every limit, once, and how a number is parted in two.
-// Bytes of a policy text and of a record.
+// Bytes of a policy text, of a record, of a result.
 pub const POLICY: usize = 16384;
 
 pub const RECORD: usize = 8192;
+
+pub const RESULT: usize = 6144;
 
 // Statements and entries of a policy, condition rows of a statement, context entries of a record.
 pub const STATEMENTS: usize = 16;

@@ -32,7 +32,7 @@ unfolding anyOf
 texts-long [] = refl
 texts-long (x ∷ xs) = rw (texts-long xs)
 
-texts-list : (xs : List (List ℕ)) → heldList heldText xs ≡ heldList heldValue (map text xs)
+pub texts-list : (xs : List (List ℕ)) → heldList heldText xs ≡ heldList heldValue (map text xs)
 texts-list xs =
     ap (λ (n : ℕ). n ∷ heldEach heldText xs) (sym (length-map xs text))
     ∙ ap (λ (l : List ℕ). length (map text xs) ∷ l) (texts-held xs)

@@ -1,0 +1,12 @@
+pub mod Matching
+pub mod MatchingPlaces
+pub mod MatchingSteps
+pub mod MatchingTrials
+pub mod Deciding
+pub mod DecidingMeets
+pub mod DecidingContexts
+pub mod DecidingRows
+pub mod DecidingStatement
+pub mod DecidingOrder
+pub mod Operations
+pub mod DecidingTrials

@@ -1,0 +1,112 @@
+-- None of the entries passed meets the value; whichever entries lie in the list are the ones tried.
+use mathlib.Core.Path.{sym, _∙_}
+use mathlib.Core.Bool.{true}
+use Prim.Native.Nat.{_-_}
+use native.Mathlib.Omega.{arith}
+use Rattle.policy.specs.Held.{heldValue, heldList, anyOf}
+use Rattle.policy.specs.Lying.{Lying}
+use Rattle.decision.specs.Decision.{meets}
+use Rattle.policy.specs.Places.{Operating}
+use Rattle.policy.proofs.Laws.Runs.{lies-inside}
+use Rattle.policy.proofs.Laws.Coming.{Coming, coming-list, lying, coming-lying, coming-decided}
+use Rattle.policy.proofs.Laws.Coming.{coming-next, coming-end, any-here, any-on}
+use borrow.Author.Needs.{needs}
+use Rattle.decision.proofs.deciding.some_meets.Statement.{statement}
+use Rattle.decision.proofs.deciding.some_meets.Tie as tie
+
+abbrev Inv-loop : tie.InvT-loop
+Inv-loop policy at operator request v n e₀ i₀ e i =
+    (o : Operating operator) (l : Lying (heldList heldValue) policy at) (y : Lying heldValue request v)
+    → Coming heldValue policy n i e (anyOf (λ x. meets (o .operator) x (y .thing)))
+    (anyOf (λ x. meets (o .operator) x (y .thing)) (l .thing))
+
+abbrev μ-loop : tie.MeasureT-loop
+μ-loop policy at operator request v n e₀ i₀ e i = n - i
+
+mul-n : tie.Need-mul-n Inv-loop μ-loop
+mul-n c = search needs
+
+shared-slice-read-n : tie.Need-shared-slice-read-n Inv-loop μ-loop
+shared-slice-read-n c = lies-inside (c .before .before .before .pre .1 .lies)
+
+cast-n : tie.Need-cast-n Inv-loop μ-loop
+cast-n c =
+    let start = c .before .before .before in
+    omega (arith, c .shared-slice-known3 .given (start .args .at))
+
+add-e : tie.Need-add-e Inv-loop μ-loop
+add-e c =
+    let start = c .before .before .before in
+    omega (arith, lies-inside (start .pre .1 .lies), start .pre .1 .lies .bounded)
+
+loop-holds : tie.Need-loop-holds Inv-loop μ-loop
+loop-holds c = λ o l y. coming-list l
+
+meets-at-requires : tie.Need-meets-at-requires Inv-loop μ-loop
+meets-at-requires c κs =
+    let start = c .before .before .before .before .before in
+    let w = c .before .loop .inv (start .pre .0) (start .pre .1) (start .pre .2) in
+    (coming-lying w (c .loop-test .taken), start .pre .2)
+
+returns : tie.Need-returns Inv-loop μ-loop
+returns c =
+    let at-loop-test = c .before .before in
+    let at-loop = at-loop-test .before in
+    λ o xs y f l m.
+    let w = at-loop .loop .inv (record { operator = o; is = f }) (lying xs l) (lying y m) in
+    coming-decided w (at-loop-test .loop-test .taken) true
+    (λ x z zs. any-here (λ u. meets o u y) x zs (sym (c .before .meets-at .ensures o x y f z m) ∙ c .if1 .taken))
+
+past-value-requires : tie.Need-past-value-requires Inv-loop μ-loop
+past-value-requires c κs =
+    let at-loop-test = c .before .before in
+    let at-loop = at-loop-test .before in
+    let start = at-loop .before .before .before .before in
+    coming-lying (at-loop .loop .inv (start .pre .0) (start .pre .1) (start .pre .2)) (at-loop-test .loop-test .taken)
+
+add-i : tie.Need-add-i Inv-loop μ-loop
+add-i c =
+    let at-loop-test = c .before .before .before in
+    let at-shared-slice-known3 = at-loop-test .before .before in
+    let start = at-shared-slice-known3 .before .before .before in
+    omega (arith, at-loop-test .loop-test .taken, at-shared-slice-known3 .shared-slice-known3 .given (start .args .at))
+
+loop-less : tie.Need-loop-less Inv-loop μ-loop
+loop-less c = search needs
+
+loop-again : tie.Need-loop-again Inv-loop μ-loop
+loop-again c =
+    let at-meets-at = c .before .before in
+    let at-loop-test = at-meets-at .before in
+    let at-loop = at-loop-test .before in
+    λ o l y.
+    coming-next (at-loop .loop .inv o l y) (at-loop-test .loop-test .taken) _
+    (anyOf (λ x. meets (o .operator) x (y .thing)))
+    (λ x z. c .past-value .ensures x z)
+    (λ x z zs. any-on (λ u. meets (o .operator) u (y .thing)) x zs
+    (sym (at-meets-at .meets-at .ensures (o .operator) x (y .thing) (o .is) z (y .lies)) ∙ c .before .if1 .left))
+
+returns-2 : tie.Need-returns-2 Inv-loop μ-loop
+unfolding anyOf
+returns-2 c =
+    λ o xs y f l m.
+    coming-end (c .before .loop .inv (record { operator = o; is = f }) (lying xs l) (lying y m)) (c .loop-test .left)
+
+pub some-meets-spec : {M : Type 1} → statement M
+some-meets-spec =
+    tie.close
+    (tie.spec
+    Inv-loop
+    μ-loop
+    mul-n
+    shared-slice-read-n
+    cast-n
+    add-e
+    loop-holds
+    meets-at-requires
+    returns
+    past-value-requires
+    add-i
+    loop-less
+    loop-again
+    returns-2)

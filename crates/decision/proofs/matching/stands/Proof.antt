@@ -1,0 +1,13 @@
+-- The wildcard stands for every character; another symbol is compared.
+use borrow.Author.Tests.{eq-eqb, ne-eqb}
+use Rattle.decision.proofs.matching.stands.Statement.{statement}
+use Rattle.decision.proofs.matching.stands.Tie as tie
+
+returns : tie.Need-returns
+returns c = simp (eq-eqb _ _ (c .if1 .taken))
+
+returns-2 : tie.Need-returns-2
+returns-2 c = simp (ne-eqb _ _ (c .if1 .left))
+
+pub stands-spec : {M : Type 1} → statement M
+stands-spec = tie.close (tie.spec returns returns-2)

@@ -1,0 +1,5 @@
+-- What the contracts of `decision` cite.
+pub mod Matching
+pub mod Decision
+pub mod Deciding
+pub mod Operations

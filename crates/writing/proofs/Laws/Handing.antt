@@ -1,0 +1,88 @@
+-- A result handed out: copied, or refused.
+use mathlib.Core.Path.{_≡_, refl, sym, ap, _∙_}
+use mathlib.Core.Bool.{true, false}
+use mathlib.Core.List.{List, [], _∷_, _++_}
+use Prim.Native.Nat.{ℕ, _+_, _≤_, _<_}
+use native.Mathlib.Numerals.{add-one}
+use native.Mathlib.Omega.{arith}
+use lib.ListN.{length, getD, set, take}
+use lib.Seq.{take-suc, length-take-le}
+use borrow.Author.Tests.{lt-ltb, le-ltb}
+use Rattle.text.specs.Putting.{lay}
+use Rattle.text.proofs.Laws.Putting.{lay-length, lay-snoc}
+use Rattle.policy.specs.Limits.{resultBytes}
+use Rattle.policy.specs.Reading.{Outcome, refused, known}
+use Rattle.policy.specs.declared.refusals.Refusal.the-variants.{ResultLength, OutputLength}
+use Rattle.writing.specs.Showing.{Shows, Adds}
+use Rattle.writing.specs.Operations.{handed}
+use Rattle.writing.proofs.Laws.Showing.{shows-none, shows-end, shows-over}
+
+-- ---- copied
+
+pub record Copied (bs : List ℕ) (n : ℕ) (out₀ out : List ℕ) (i : ℕ) : Type 0 where
+  pub enough : n ≤ length bs
+  pub few : i ≤ n
+  pub is : out ≡ lay (take i bs) out₀
+
+pub copied-start : (bs : List ℕ) (n : ℕ) (out : List ℕ) → n ≤ length bs → Copied bs n out out 0
+unfolding lay
+copied-start bs n out h = record { enough = h; few = omega arith; is = refl }
+
+module _ {bs out₀ out : List ℕ} {n i : ℕ} (w : Copied bs n out₀ out i) where
+  pub copied-length : length out ≡ length out₀
+  copied-length = ap length (w .is) ∙ lay-length (take i bs) out₀
+
+  pub copied-next : i < n → Copied bs n out₀ (set out i (getD bs i 0)) (i + 1)
+  copied-next h =
+      let inside : i < length bs = omega (arith, w .enough) in
+      let b = getD bs i 0 in
+      record {
+        enough = w .enough;
+        few = omega arith;
+        is = ap (λ (l : List ℕ). set l i b) (w .is)
+            ∙ ap (λ (k : ℕ). set (lay (take i bs) out₀) k b) (sym (length-take-le i bs (omega arith)))
+            ∙ sym (lay-snoc (take i bs) out₀ b)
+            ∙ ap (λ (l : List ℕ). lay l out₀) (sym (take-suc bs i 0 inside))
+            ∙ ap (λ (k : ℕ). lay (take k bs) out₀) (sym (add-one i));
+      }
+
+  pub copied-end : n ≤ i → out ≡ lay (take n bs) out₀
+  copied-end h =
+      let e : i ≡ n = omega (arith, w .few) in
+      w .is ∙ ap (λ (k : ℕ). lay (take k bs) out₀) e
+
+-- ---- handed
+
+module _ (bs out : List ℕ) where
+  pub handed-long : resultBytes < length bs → (refused ResultLength, out) ≡ handed bs out
+  unfolding handed
+  handed-long h = rw (lt-ltb resultBytes (length bs) h) refl
+
+  pub handed-short : length bs ≤ resultBytes → length out < length bs → (refused OutputLength, out) ≡ handed bs out
+  unfolding handed
+  handed-short h k = rw (le-ltb resultBytes (length bs) h, lt-ltb (length out) (length bs) k) refl
+
+  pub handed-whole : length bs ≤ resultBytes → length bs ≤ length out → (known (length bs), lay bs out) ≡ handed bs out
+  unfolding handed
+  handed-whole h k = rw (le-ltb resultBytes (length bs) h, le-ltb (length out) (length bs) k) refl
+
+-- what stands in a room that took the bytes
+module _ {w room after : List ℕ} {n : ℕ} (out : List ℕ) (a : Adds w room 0 n after) (size : length room ≡ resultBytes) where
+  shows : Shows w n after
+  shows = a .adds [] (shows-none room size)
+
+  pub hand-long : resultBytes < n → (refused ResultLength, out) ≡ handed w out
+  hand-long h = handed-long w out (shows-over shows h)
+
+  module _ (h : n ≤ resultBytes) where
+    abbrev length-is : length w ≡ n
+    length-is = shows-end shows h .0
+
+    pub hand-short : length out < n → (refused OutputLength, out) ≡ handed w out
+    hand-short k = handed-short w out (omega (arith, length-is)) (omega (arith, length-is))
+
+    pub hand-whole : {exit : List ℕ} → n ≤ length out → exit ≡ lay (take n after) out → (known n, exit) ≡ handed w out
+    hand-whole {exit} k e =
+        let f : exit ≡ lay w out = e ∙ ap (λ (l : List ℕ). lay l out) (shows-end shows h .1) in
+        ap (λ (m : ℕ). (known m, exit)) (sym length-is) ∙ ap (λ (l : List ℕ). (known (length w), l)) f
+        ∙ handed-whole w out (omega (arith, length-is)) (omega (arith, length-is))

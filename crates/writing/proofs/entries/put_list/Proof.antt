@@ -1,0 +1,96 @@
+-- Each turn puts one entry behind those before it; whichever entries lie at the place are the ones put.
+use mathlib.Core.Path.{refl, _∙_}
+use Prim.Native.Nat.{_+_, _-_}
+use native.Mathlib.Omega.{arith}
+use Rattle.policy.specs.Held.{heldValue}
+use Rattle.policy.proofs.Laws.Runs.{lies-first, lies-inside, lies-next, lies-short, list-lying}
+use Rattle.writing.specs.Bytes.{listed, entryBytes, listBytes}
+use Rattle.writing.proofs.Laws.Showing.{adds-then}
+use Rattle.writing.proofs.Laws.Telling.{Tellings, telling-start, telling-lying, telling-next, telling-end}
+use Rattle.writing.proofs.Laws.Lying.{listed-piece}
+use borrow.Author.Needs.{needs}
+use Rattle.writing.proofs.entries.put_list.Statement.{statement}
+use Rattle.writing.proofs.entries.put_list.Tie as tie
+
+abbrev Inv-loop : tie.InvT-loop
+Inv-loop kind run at out₀ o n next₀ e₀ i₀ out next e i = Tellings heldValue (listed (entryBytes kind)) run (at + 1) out₀ next₀ n i e i out next
+
+abbrev μ-loop : tie.MeasureT-loop
+μ-loop kind run at out₀ o n next₀ e₀ i₀ out next e i = n - i
+
+mul-n : tie.Need-mul-n Inv-loop μ-loop
+mul-n c = search needs
+
+shared-slice-read-n : tie.Need-shared-slice-read-n Inv-loop μ-loop
+shared-slice-read-n c = lies-inside (c .before .before .before .pre .lies)
+
+cast-n : tie.Need-cast-n Inv-loop μ-loop
+cast-n c = omega (arith, c .shared-slice-known2 .given (c .before .before .before .args .at))
+
+put-requires : tie.Need-put-requires Inv-loop μ-loop
+put-requires c κs = search needs
+
+add-e : tie.Need-add-e Inv-loop μ-loop
+add-e c =
+    omega (arith, lies-inside (c .before .before .before .before .before .before .before .pre .lies), c .before .before .before .before .before .before .before .pre .lies .bounded)
+
+loop-holds : tie.Need-loop-holds Inv-loop μ-loop
+loop-holds c = λ xs k l. telling-start xs k l
+
+put-between-requires : tie.Need-put-between-requires Inv-loop μ-loop
+put-between-requires c κs = search needs
+
+put-entry-requires : tie.Need-put-entry-requires Inv-loop μ-loop
+put-entry-requires c κs =
+    telling-lying (let y = list-lying (c .before .before .before .before .before .before .before .before .before .before .before .before .before .before .pre) in c .before .before .before .before .before .before .loop .inv (y .things) (y .count) (y .lies)) (c .before .before .before .before .before .loop-test .taken)
+
+past-value-requires : tie.Need-past-value-requires Inv-loop μ-loop
+past-value-requires c κs =
+    telling-lying (let y = list-lying (c .before .before .before .before .before .before .before .before .before .before .before .before .before .before .before .before .before .pre) in c .before .before .before .before .before .before .before .before .before .loop .inv (y .things) (y .count) (y .lies)) (c .before .before .before .before .before .before .before .before .loop-test .taken)
+
+add-i : tie.Need-add-i Inv-loop μ-loop
+add-i c =
+    omega (arith, c .before .before .before .before .before .before .before .before .before .loop-test .taken, c .before .before .before .before .before .before .before .before .before .before .before .before .before .before .before .shared-slice-known2 .given (c .before .before .before .before .before .before .before .before .before .before .before .before .before .before .before .before .before .before .args .at))
+
+loop-less : tie.Need-loop-less Inv-loop μ-loop
+loop-less c = search needs
+
+loop-again : tie.Need-loop-again Inv-loop μ-loop
+loop-again c =
+    λ xs k l. telling-next (c .before .before .before .before .before .before .before .before .before .before .loop .inv xs k l) (c .before .before .before .before .before .before .before .before .before .loop-test .taken) _ _ _ _
+    (λ x m. listed-piece _ (c .before .before .before .before .before .before .before .before .before .before .loop .inv xs k l) x (c .past-value .ensures x m) (c .before .before .before .before .before .before .before .put-between .ensures) (c .before .before .before .put-entry .ensures x m))
+
+put-requires-2 : tie.Need-put-requires-2 Inv-loop μ-loop
+put-requires-2 c κs = search needs
+
+same-length : tie.Need-same-length Inv-loop μ-loop
+same-length c =
+    c .before .before .put2 .ensures .size ∙ (let y = list-lying (c .before .before .before .before .before .before .before .before .before .before .before .before .before .pre) in c .before .before .before .before .before .loop .inv (y .things) (y .count) (y .lies)) .adds .size ∙ c .before .before .before .before .before .before .before .before .put .ensures .size
+
+returns : tie.Need-returns Inv-loop μ-loop
+unfolding listBytes listed
+returns c =
+    λ xs l. adds-then (c .before .before .before .before .before .before .before .before .put .ensures)
+    (adds-then (telling-end (c .before .before .before .before .before .loop .inv xs (lies-first l) (lies-next l)) (c .before .before .before .before .loop-test .left) refl) (c .before .before .put2 .ensures))
+
+pub put-list-spec : {M : Type 1} → statement M
+put-list-spec =
+    tie.close
+    (tie.spec
+    Inv-loop
+    μ-loop
+    mul-n
+    shared-slice-read-n
+    cast-n
+    put-requires
+    add-e
+    loop-holds
+    put-between-requires
+    put-entry-requires
+    past-value-requires
+    add-i
+    loop-less
+    loop-again
+    put-requires-2
+    same-length
+    returns)

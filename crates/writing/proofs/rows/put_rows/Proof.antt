@@ -1,0 +1,107 @@
+-- Each turn puts one row behind those before it.
+use mathlib.Core.Path.{refl}
+use Prim.Native.Nat.{_+_, _-_}
+use native.Mathlib.Omega.{arith}
+use Rattle.policy.specs.Held.{heldRow}
+use Rattle.policy.proofs.Laws.Runs.{lies-first, lies-inside, lies-next, list-lying}
+use Rattle.policy.proofs.Laws.Parts.{row-inside, row-operator}
+use Rattle.writing.specs.Bytes.{rowsFrom}
+use Rattle.writing.proofs.Laws.Telling.{Tellings, telling-start, telling-lying, telling-next, telling-end}
+use Rattle.writing.proofs.Laws.Lying.{row-piece}
+use borrow.Author.Needs.{needs}
+use Rattle.writing.proofs.rows.put_rows.Statement.{statement}
+use Rattle.writing.proofs.rows.put_rows.Tie as tie
+
+abbrev Inv-loop : tie.InvT-loop
+Inv-loop run at out₀ o n next₀ last₀ p₀ i₀ out next last p i = Tellings heldRow rowsFrom run (at + 1) out₀ next₀ n i p last out next
+
+abbrev μ-loop : tie.MeasureT-loop
+μ-loop run at out₀ o n next₀ last₀ p₀ i₀ out next last p i = n - i
+
+mul-n : tie.Need-mul-n Inv-loop μ-loop
+mul-n c = search needs
+
+shared-slice-read-n : tie.Need-shared-slice-read-n Inv-loop μ-loop
+shared-slice-read-n c = lies-inside (c .before .before .before .pre .lies)
+
+cast-n : tie.Need-cast-n Inv-loop μ-loop
+cast-n c = omega (arith, c .shared-slice-known2 .given (c .before .before .before .args .at))
+
+add-p : tie.Need-add-p Inv-loop μ-loop
+add-p c =
+    omega (arith, lies-inside (c .before .before .before .pre .lies), c .before .before .before .pre .lies .bounded)
+
+loop-holds : tie.Need-loop-holds Inv-loop μ-loop
+loop-holds c = λ xs k l. telling-start xs k l
+
+mul-put-turning : tie.Need-mul-put-turning Inv-loop μ-loop
+mul-put-turning c =
+    let r = telling-lying (let y = list-lying (c .before .before .before .before .before .before .pre) in c .before .before .loop .inv (y .things) (y .count) (y .lies)) (c .before .loop-test .taken) in omega (arith, row-inside (r .thing) (r .lies), r .lies .bounded)
+
+shared-slice-read-put-turning : tie.Need-shared-slice-read-put-turning Inv-loop μ-loop
+shared-slice-read-put-turning c =
+    let r = telling-lying (let y = list-lying (c .before .before .before .before .before .before .before .pre) in c .before .before .before .loop .inv (y .things) (y .count) (y .lies)) (c .before .before .loop-test .taken) in row-inside (r .thing) (r .lies)
+
+put-turning-requires : tie.Need-put-turning-requires Inv-loop μ-loop
+put-turning-requires c κs = search needs
+
+put-row-requires : tie.Need-put-row-requires Inv-loop μ-loop
+put-row-requires c κs =
+    telling-lying (let y = list-lying (c .before .before .before .before .before .before .before .before .before .before .before .pre) in c .before .before .before .before .before .before .before .loop .inv (y .things) (y .count) (y .lies)) (c .before .before .before .before .before .before .loop-test .taken)
+
+mul-last : tie.Need-mul-last Inv-loop μ-loop
+mul-last c =
+    let r = telling-lying (let y = list-lying (c .before .before .before .before .before .before .before .before .before .before .before .before .before .before .pre) in c .before .before .before .before .before .before .before .before .before .before .loop .inv (y .things) (y .count) (y .lies)) (c .before .before .before .before .before .before .before .before .before .loop-test .taken) in omega (arith, row-inside (r .thing) (r .lies), r .lies .bounded)
+
+shared-slice-read-last : tie.Need-shared-slice-read-last Inv-loop μ-loop
+shared-slice-read-last c =
+    let r = telling-lying (let y = list-lying (c .before .before .before .before .before .before .before .before .before .before .before .before .before .before .before .pre) in c .before .before .before .before .before .before .before .before .before .before .before .loop .inv (y .things) (y .count) (y .lies)) (c .before .before .before .before .before .before .before .before .before .before .loop-test .taken) in row-inside (r .thing) (r .lies)
+
+row-requires : tie.Need-row-requires Inv-loop μ-loop
+row-requires c κs =
+    telling-lying (let y = list-lying (c .before .before .before .before .before .before .before .before .before .before .before .before .before .before .before .pre) in c .before .before .before .before .before .before .before .before .before .before .before .loop .inv (y .things) (y .count) (y .lies)) (c .before .before .before .before .before .before .before .before .before .before .loop-test .taken)
+
+add-i : tie.Need-add-i Inv-loop μ-loop
+add-i c =
+    omega (arith, c .before .before .before .before .before .before .before .before .before .before .before .loop-test .taken, c .before .before .before .before .before .before .before .before .before .before .before .before .before .shared-slice-known2 .given (c .before .before .before .before .before .before .before .before .before .before .before .before .before .before .before .before .args .at))
+
+loop-less : tie.Need-loop-less Inv-loop μ-loop
+loop-less c = search needs
+
+loop-again : tie.Need-loop-again Inv-loop μ-loop
+loop-again c =
+    λ xs k l. telling-next (c .before .before .before .before .before .before .before .before .before .before .before .before .loop .inv xs k l) (c .before .before .before .before .before .before .before .before .before .before .before .loop-test .taken) _ _ _ _
+    (λ x m. row-piece (c .before .before .before .before .before .before .before .before .before .before .before .before .loop .inv xs k l) x (c .row .ensures x m .past) (row-operator x m) (c .before .before .before .before .before .before .before .before .put-turning .ensures)
+    (c .before .before .before .before .put-row .ensures x m))
+
+same-length : tie.Need-same-length Inv-loop μ-loop
+same-length c =
+    (let y = list-lying (c .before .before .before .before .before .pre) in c .before .loop .inv (y .things) (y .count) (y .lies)) .adds .size
+
+returns : tie.Need-returns Inv-loop μ-loop
+unfolding rowsFrom
+returns c = λ xs l. telling-end (c .before .loop .inv xs (lies-first l) (lies-next l)) (c .loop-test .left) refl
+
+pub put-rows-spec : {M : Type 1} → statement M
+put-rows-spec =
+    tie.close
+    (tie.spec
+    Inv-loop
+    μ-loop
+    mul-n
+    shared-slice-read-n
+    cast-n
+    add-p
+    loop-holds
+    mul-put-turning
+    shared-slice-read-put-turning
+    put-turning-requires
+    put-row-requires
+    mul-last
+    shared-slice-read-last
+    row-requires
+    add-i
+    loop-less
+    loop-again
+    same-length
+    returns)

@@ -1,0 +1,7 @@
+-- What the contracts of `writing` cite.
+pub mod WrittenForm
+pub mod Valid
+pub mod Showing
+pub mod Bytes
+pub mod Operations
+pub mod Restating

@@ -1,0 +1,75 @@
+// Entries of a held policy, and lists of them.
+ghost use mathlib.Core.Path.{_≡_};
+ghost use Prim.Native.Nat.{ℕ, _+_, _-_, _*_, _≤_};
+ghost use mathlib.Core.List.{List};
+ghost use Rattle.policy.specs.Policy.{Value};
+ghost use Rattle.policy.specs.Held.{heldValue, heldNumber, heldList, mark};
+ghost use Rattle.policy.specs.Lying.{Lies, Lying};
+ghost use Rattle.writing.specs.Showing.{Adds};
+ghost use Rattle.writing.specs.Bytes.{entryBody, entryBytes, listBytes};
+ghost use Rattle.writing.specs.WrittenForm.{digitsOf};
+use crate::sink;
+use crate::spelling;
+use policy::limits;
+use policy::places;
+
+// The number of a marked upper half and a lower one.
+fn whole(upper: u32, lower: u32) -> u64
+    requires { ⌜ mark ≤ upper ⌝ }
+    ensures { λ r. ⌜ r ≡ (upper - mark) * 4294967296 + lower ⌝ }
+{
+    (upper - limits::MARK) as u64 * limits::HALF + lower as u64
+}
+
+// The number that lies at a place.
+fn put_number(run: &[u32], at: usize, out: &mut [u8], o: usize) -> usize
+    requires { ⌜ Lying heldNumber (now run) at ⌝ }
+    ensures { λ r. ⌜ ((n : ℕ) → Lies (now (run .entry)) at (heldNumber n) → Adds (digitsOf n) (now (out .entry)) o r (now (out .exit))) ⌝ }
+{
+    let n = whole(run[at], run[at + 1]);
+    spelling::put_digits(out, o, 15, n)
+}
+
+// The entry at a place, between its quotes: kind 0 is of Action, 2 of Resource, and others are of the operator's number.
+fn put_body(kind: u32, run: &[u32], at: usize, out: &mut [u8], o: usize) -> usize
+    requires { ⌜ Lying heldValue (now run) at ⌝ }
+    ensures { λ r. ⌜ ((x : Value) → Lies (now (run .entry)) at (heldValue x) → Adds (entryBody kind x) (now (out .entry)) o r (now (out .exit))) ⌝ }
+{
+    let n = run[at];
+    if n >= limits::MARK {
+        return put_number(run, at, out, o);
+    }
+    let from = at + 1;
+    let to = from + n as usize;
+    if kind == 0 {
+        return spelling::put_bare(out, o, &run[from..to]);
+    }
+    spelling::put_spelled(out, o, kind == 2, &run[from..to])
+}
+
+fn put_entry(kind: u32, run: &[u32], at: usize, out: &mut [u8], o: usize) -> usize
+    requires { ⌜ Lying heldValue (now run) at ⌝ }
+    ensures { λ r. ⌜ ((x : Value) → Lies (now (run .entry)) at (heldValue x) → Adds (entryBytes kind x) (now (out .entry)) o r (now (out .exit))) ⌝ }
+{
+    let open = sink::put(out, o, 34);
+    let body = put_body(kind, run, at, out, open);
+    sink::put(out, body, 34)
+}
+
+// The list at a place.
+pub fn put_list(kind: u32, run: &[u32], at: usize, out: &mut [u8], o: usize) -> usize
+    requires { ⌜ Lying (heldList heldValue) (now run) at ⌝ }
+    ensures { λ r. ⌜ ((xs : List Value) → Lies (now (run .entry)) at (heldList heldValue xs) → Adds (listBytes kind xs) (now (out .entry)) o r (now (out .exit))) ⌝ }
+{
+    let n = run[at] as usize;
+    let mut next = sink::put(out, o, 91);
+    let mut e = at + 1;
+    let mut i = 0usize;
+    while i < n {
+        let before = sink::put_between(out, next, i);
+        next = put_entry(kind, run, e, out, before);
+        e = places::past_value(run, e);
+        i = i + 1;
+    }
+    sink::put(out, next, 93)
+}

@@ -1,0 +1,64 @@
+// A run of bytes that takes what is written as far as it goes, and says whether it was too much.
+ghost use mathlib.Core.List.{[], _∷_};
+ghost use Rattle.text.specs.Written.{written, writtenText};
+ghost use Rattle.writing.specs.Showing.{Adds};
+ghost use Rattle.writing.specs.Bytes.{between};
+use policy::limits;
+
+// The place of one who wrote more than a result may have.
+const OVER: usize = limits::RESULT + 1;
+
+pub fn put(out: &mut [u8], at: usize, b: u8) -> usize
+    ensures { λ r. ⌜ Adds (b ∷ []) (now (out .entry)) at r (now (out .exit)) ⌝ }
+{
+    if at >= out.len() {
+        return OVER;
+    }
+    out[at] = b;
+    at + 1
+}
+
+// A character in its written form.
+pub fn put_char(out: &mut [u8], at: usize, c: u32) -> usize
+    ensures { λ r. ⌜ Adds (written c) (now (out .entry)) at r (now (out .exit)) ⌝ }
+{
+    let next = text::written::put_char(out, at, c);
+    if next == at {
+        return OVER;
+    }
+    next
+}
+
+pub fn put_bytes(out: &mut [u8], at: usize, bs: &[u8]) -> usize
+    ensures { λ r. ⌜ Adds (now (bs .entry)) (now (out .entry)) at r (now (out .exit)) ⌝ }
+{
+    let mut next = at;
+    let mut i = 0usize;
+    while i < bs.len() {
+        next = put(out, next, bs[i]);
+        i = i + 1;
+    }
+    next
+}
+
+pub fn put_text(out: &mut [u8], at: usize, cs: &[u32]) -> usize
+    ensures { λ r. ⌜ Adds (writtenText (now (cs .entry))) (now (out .entry)) at r (now (out .exit)) ⌝ }
+{
+    let mut next = at;
+    let mut i = 0usize;
+    while i < cs.len() {
+        next = put_char(out, next, cs[i]);
+        i = i + 1;
+    }
+    next
+}
+
+// A comma, but not before the first thing.
+pub fn put_between(out: &mut [u8], at: usize, i: usize) -> usize
+    ensures { λ r. ⌜ Adds (between i) (now (out .entry)) at r (now (out .exit)) ⌝ }
+{
+    if i == 0 {
+        return at;
+    }
+    put(out, at, 44)
+}
