@@ -1,9 +1,9 @@
 -- Matching: document 01, "Policy layout", on * and ?; an entry e by its symbols, a text t by its characters.
 --   Matches e t   the meaning, one rule for each clause;  matches e t   the same as a test
---   next e t at   the order of trying, from `start` on: one look at one symbol and one character, and where to look then,
---                 or the answer
--- A wildcard is one whatever number stands in the text. So `star` and `any`, which no character has, would be met there by
--- wildcards alone.
+--   next e t at   the order of trying, from `start` on: one look at one symbol and one character, and where to look
+--                 then, or the answer
+-- A wildcard is one whatever number stands in the text. So `star` and `any`, which no character has, would be met there
+-- by wildcards alone.
 -- Differs from 01: nowhere.  Pinned by: Laws/Matching, Laws/MatchingSteps, Laws/MatchingTrials.
 use mathlib.Core.Path.{_≡_}
 use mathlib.Core.Bool.{Bool, true, false}

@@ -1,5 +1,6 @@
 -- Operations: what Decide answers, for all bytes: document 01, "What is bought", with the refusals in their order.
---   Decides p r x   the policy text p and the record r come to x: the policy's refusal, else the record's, else the decision
+--   Decides p r x   the policy text p and the record r come to x: the policy's refusal, else the record's, else the
+--                   decision
 -- Differs from 01: nowhere.  Pinned by: `decides-some` and `decides-unique` of Laws/Operations.
 use mathlib.Core.List.{List}
 use Prim.Native.Nat.{ℕ}

@@ -1,7 +1,7 @@
 -- Operations: what Restate answers and leaves, for all bytes and every output lent: document 01, "What is bought", with
 -- the refusals in their order.
---   handed bs out         a result bs for an output: 11 over the limit, 12 where the output is shorter, and the output as
---                         it was; else how many bytes, and the output with bs at its beginning
+--   handed bs out            a result bs for an output: 11 over the limit, 12 where the output is shorter, and the output
+--                            as it was; else how many bytes, and the output with bs at its beginning
 --   Restates p out x after   the policy text p comes to x, and out to after
 -- Differs from 01: nowhere.  Pinned by: `restates-some` and `restates-unique` of Laws/Operations.
 use mathlib.Core.Path.{_≡_}

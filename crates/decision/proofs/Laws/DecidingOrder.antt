@@ -9,7 +9,8 @@ use Rattle.text.specs.Base.{pick}
 use Rattle.policy.specs.Policy.{Effect, Allow, Deny, Statement, Policy, Request}
 use Rattle.decision.specs.Matching.{matches}
 use Rattle.policy.specs.Held.{effectNumber, anyOf}
-use Rattle.decision.specs.Decision.{Part, none, action, resource, row, partOf, isNone, sameEffect, firstOf, byDeny}
+use Rattle.decision.specs.Decision.{Part, none, action, resource, row, partOf, isNone, sameEffect, firstOf}
+use Rattle.decision.specs.Decision.{byDeny}
 use Rattle.decision.specs.Decision.{decide}
 use Rattle.decision.specs.Deciding.{partBehind, failingOf, isNothing, orElse}
 use Rattle.decision.specs.declared.deciding.Decision.{Decision}

@@ -16,7 +16,8 @@ use Rattle.policy.specs.Policy.{star}
 use Rattle.decision.specs.Matching.{Matches, stands, matches, retry, atEnd, atSymbol, next}
 use Rattle.policy.proofs.Laws.Slots.{true-false}
 use Rattle.decision.proofs.Laws.Matching.{matches-complete, matches-not}
-use Rattle.decision.proofs.Laws.MatchingPlaces.{From, Tracks, left, tracks-star, left-star, tracks-both, left-both}
+use Rattle.decision.proofs.Laws.MatchingPlaces.{From, Tracks, left, tracks-star, left-star, tracks-both}
+use Rattle.decision.proofs.Laws.MatchingPlaces.{left-both}
 use Rattle.decision.proofs.Laws.MatchingPlaces.{other-missed, short, ends-both, ends-star, end-missed}
 use Rattle.decision.proofs.Laws.MatchingPlaces.{none-left, tracks-again, left-again}
 

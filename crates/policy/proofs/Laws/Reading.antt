@@ -148,7 +148,8 @@ module _ {extra : ℕ} {s run : List ℕ} (f : Fit 16384 extra s run) where
       subst (Says policyRules s)
       (ap policyComes e ∙ ap (λ (t : Bool). pick t (refused PolicyLimit) (known p)) l) comes
 
-  pub policy-over : (p : Policy) → policyOf tree ≡ read p → overLimit p ≡ true → Says policyRules s (refused PolicyLimit)
+  pub policy-over : (p : Policy) → policyOf tree ≡ read p → overLimit p ≡ true → Says policyRules s
+      (refused PolicyLimit)
   policy-over p e l = limited p true e l
 
   pub policy-known :

@@ -68,7 +68,8 @@ digits-plain n = plain-up-to 15 n
 -- ---- lists
 
 module _ {A : Type 0} (f : A → Json) (g : A → List ℕ) (e : (x : A) → printed (f x) ≡ g x) where
-  rest-bytes : (i : ℕ) (xs : List A) (zs : List ℕ) → listed g (suc i) xs ++ (93 ∷ zs) ≡ printedRest (valuesOf f xs) ++ zs
+  rest-bytes : (i : ℕ) (xs : List A) (zs : List ℕ) → listed g (suc i) xs ++ (93 ∷ zs) ≡ printedRest (valuesOf f xs) ++
+      zs
   unfolding listed valuesOf printed
   rest-bytes i [] zs = refl
   rest-bytes i (x ∷ xs) zs =
@@ -91,7 +92,8 @@ module _ {A : Type 0} (f : A → Json) (g : A → List ℕ) (e : (x : A) → pri
 -- ---- entries
 
 listed-map :
-    {A B : Type 0} (f : A → B) (g : B → List ℕ) (i : ℕ) (xs : List A) → listed g i (map f xs) ≡ listed (λ x. g (f x)) i xs
+    {A B : Type 0} (f : A → B) (g : B → List ℕ) (i : ℕ) (xs : List A) → listed g i (map f xs) ≡ listed (λ x. g (f x))
+    i xs
 unfolding listed
 listed-map f g i [] = refl
 listed-map f g zero (x ∷ xs) = ap (λ (l : List ℕ). g (f x) ++ l) (listed-map f g 1 xs)
@@ -112,7 +114,8 @@ pub resource-bytes : (ys : List ℕ) → printed (resourceTree ys) ≡ entryByte
 unfolding printed resourceTree entryBytes entryBody
 resource-bytes ys = refl
 
-list-before : (k : ℕ) (xs : List Value) (zs : List ℕ) → listBytes k xs ++ zs ≡ 91 ∷ (listed (entryBytes k) 0 xs ++ (93 ∷ zs))
+list-before : (k : ℕ) (xs : List Value) (zs : List ℕ) → listBytes k xs ++ zs ≡ 91 ∷
+    (listed (entryBytes k) 0 xs ++ (93 ∷ zs))
 unfolding listBytes
 list-before k xs zs = ap (λ (l : List ℕ). 91 ∷ l) (append-assoc (listed (entryBytes k) 0 xs) (93 ∷ []) zs)
 
@@ -124,7 +127,8 @@ values-bytes o xs zs =
     ∙ elements-bytes (valueTree o) (entryBytes (operatorNumber o)) (value-bytes o) xs zs
 
 pub texts-bytes :
-    (k : ℕ) (f : List ℕ → Json) → ((ys : List ℕ) → printed (f ys) ≡ entryBytes k (text ys)) → (xs : List (List ℕ)) (zs : List ℕ)
+    (k : ℕ) (f : List ℕ → Json) → ((ys : List ℕ) → printed (f ys) ≡ entryBytes k (text ys)) → (xs : List (List ℕ))
+    (zs : List ℕ)
     → listBytes k (map text xs) ++ zs ≡ printed (listOf f xs) ++ zs
 texts-bytes k f e xs zs =
     list-before k (map text xs) zs

@@ -14,14 +14,16 @@ use Rattle.policy.specs.Words.{conditionWord}
 use Rattle.policy.specs.PolicyLayout.{sameOperator, Group}
 use Rattle.writing.specs.WrittenForm.{listOf, valueTree, joining, grouped, rowsTree, operatorWord, groupsTree}
 use Rattle.writing.specs.WrittenForm.{conditionMember}
-use Rattle.writing.specs.Bytes.{name, listBytes, operatorName, ending, turning, rowBytes, rowsFrom, conditionBytes}
+use Rattle.writing.specs.Bytes.{name, listBytes, operatorName, ending, turning, rowBytes, rowsFrom}
+use Rattle.writing.specs.Bytes.{conditionBytes}
 use Rattle.writing.proofs.Laws.TreeRows.{operator-same}
 use Rattle.writing.proofs.Laws.Bytes.{values-bytes}
 
 abbrev rowTree : Row → Json
 rowTree r = listOf (valueTree (r .operator)) (r .entries)
 
-row-bytes : (r : Row) (zs : List ℕ) → rowBytes r ++ zs ≡ quoted (writtenText (r .key)) ++ (58 ∷ (printed (rowTree r) ++ zs))
+row-bytes : (r : Row) (zs : List ℕ) → rowBytes r ++ zs ≡ quoted (writtenText (r .key)) ++
+    (58 ∷ (printed (rowTree r) ++ zs))
 unfolding rowBytes
 row-bytes r zs =
     let w = quoted (writtenText (r .key)) in
@@ -53,7 +55,8 @@ first r (g ∷ gs) = by (sameOperator (r .operator) (g .operator)) refl
         record {
           rows = g .rows;
           more = gs;
-          is = rw e (ap (λ (o : Operator). record { operator = o; rows = r ∷ g .rows } ∷ gs) (sym (operator-same (r .operator) (g .operator) e)));
+          is = rw e (ap (λ (o : Operator). record { operator = o; rows = r ∷ g .rows } ∷ gs)
+              (sym (operator-same (r .operator) (g .operator) e)));
           behind = rw e refl;
         }
     by false e = record { rows = []; more = g ∷ gs; is = rw e refl; behind = rw e refl }
@@ -119,7 +122,8 @@ module _ (r : Row) (rows : List Row) (more : List Group) where
       rw (operator-some (r .operator), operator-name (r .operator))
       (opened r (printedMore (rowsTree rows)) (printedMore (groupsTree more)) (operatorWord (r .operator)))
 
-  turn-other : (o : Operator) → turning (operatorNumber o) (operatorNumber (r .operator)) ++ behind ≡ after o (group ∷ more)
+  turn-other : (o : Operator) → turning (operatorNumber o) (operatorNumber (r .operator)) ++ behind ≡ after o
+      (group ∷ more)
   unfolding turning after printed rowsTree groupsTree
   turn-other o = by (sameOperator o (r .operator)) refl
     where

@@ -109,7 +109,8 @@ handed-is bs out {n} {after} e = by (decLt resultBytes (length bs)) (decLt (leng
               ∙ ap (λ (r : Outcome ℕ × List ℕ). take (length bs) (r .1)) f ∙ lay-take bs out (omega arith);
         }
 
-kept : {policy out after : List ℕ} {x : Outcome ℕ} (f : Refusal) → Restates policy out x after → x ≡ refused f → after ≡ out
+kept : {policy out after : List ℕ} {x : Outcome ℕ} (f : Refusal) → Restates policy out x after → x ≡ refused f → after
+    ≡ out
 kept f (policy-refused b) e = refl
 kept {out = out} {after = after} f (restated {p} b q) e =
     handed-kept (writtenPolicy p) out (ap (λ (y : Outcome ℕ). (y, after)) (sym e) ∙ q)

@@ -9,8 +9,8 @@ use Rattle.policy.proofs.Laws.Coming.{Coming, coming, coming-now, coming-lying,
 use Rattle.writing.specs.Showing.{Adds}
 use Rattle.writing.proofs.Laws.Showing.{adds-none, adds-then, adds-as}
 
--- Of n things i are told and the others lie from p on. What t tells of those, behind the state s, stands behind what was
--- added since out₀ and o₀.
+-- Of n things i are told and the others lie from p on. What t tells of those, behind the state s, stands behind what
+-- was added since out₀ and o₀.
 module _ {A : Type 0} (h : A → List ℕ) (t : ℕ → List A → List ℕ) (run total out₀ : List ℕ) (o₀ : ℕ) where
   pub record Telling (n i p s : ℕ) (out : List ℕ) (o : ℕ) : Type 0 where
     pub done : List ℕ

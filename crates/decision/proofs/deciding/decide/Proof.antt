@@ -18,7 +18,8 @@ use Rattle.policy.proofs.Laws.Runs.{lies-inside}
 use Rattle.policy.proofs.Laws.RunsStatement.{policy-inside, policy-count, policy-lies}
 use Rattle.policy.proofs.Laws.Coming.{Coming, coming, coming-list, lying, coming-more, coming-one}
 use Rattle.policy.proofs.Laws.Coming.{coming-now, coming-next, coming-end, any-on, some-is, none-is}
-use Rattle.decision.proofs.Laws.DecidingOrder.{unmatched, matched, is-deny, is-allow, told, told-all, told-passed}
+use Rattle.decision.proofs.Laws.DecidingOrder.{unmatched, matched, is-deny, is-allow, told, told-all}
+use Rattle.decision.proofs.Laws.DecidingOrder.{told-passed}
 use Rattle.decision.proofs.Laws.DecidingOrder.{told-allowed, told-denied, left-allowed, left-implicit}
 use borrow.Author.Needs.{needs}
 use Rattle.decision.proofs.deciding.decide.Statement.{statement}

@@ -39,19 +39,30 @@ mul-is-key : tie.Need-mul-is-key
 mul-is-key c = search needs
 
 sub-is-key : tie.Need-sub-is-key
-sub-is-key c = past-first
-    (omega (arith, c .before .before .before .before .before .before .before .before .before .pre .room))
-    (holds-past heldText (c .before .before .before .before .before .before .before .before .before .args .run .now) _ (c .before .before .before .before .before .before .before .before .before .args .at) _ (c .before .before .before .before .before .hold-raw .ensures) (c .before .h .given .1))
+sub-is-key c =
+    let at-hold-raw = c .before .before .before .before .before in
+    let start = at-hold-raw .before .before .before .before in
+    past-first (omega (arith, start .pre .room))
+    (holds-past heldText (start .args .run .now) _ (start .args .at) _ (at-hold-raw .hold-raw .ensures)
+    (c .before .h .given .1))
 
 part-is-key-start : tie.Need-part-is-key-start
-part-is-key-start c = past-first
-    (omega (arith, c .before .before .before .before .before .before .before .before .before .before .pre .room))
-    (holds-past heldText (c .before .before .before .before .before .before .before .before .before .before .args .run .now) _ (c .before .before .before .before .before .before .before .before .before .before .args .at) _ (c .before .before .before .before .before .before .hold-raw .ensures) (c .before .before .h .given .1))
+part-is-key-start c =
+    let at-h = c .before .before in
+    let at-hold-raw = at-h .before .before .before .before in
+    let start = at-hold-raw .before .before .before .before in
+    past-first (omega (arith, start .pre .room))
+    (holds-past heldText (start .args .run .now) _ (start .args .at) _ (at-hold-raw .hold-raw .ensures)
+    (at-h .h .given .1))
 
 part-is-key-end : tie.Need-part-is-key-end
-part-is-key-end c = past-within
-    (omega (arith, c .before .before .before .before .before .before .before .before .before .before .pre .room))
-    (holds-past heldText (c .before .before .before .before .before .before .before .before .before .before .args .run .now) _ (c .before .before .before .before .before .before .before .before .before .before .args .at) _ (c .before .before .before .before .before .before .hold-raw .ensures) (c .before .before .h .given .1))
+part-is-key-end c =
+    let at-h = c .before .before in
+    let at-hold-raw = at-h .before .before .before .before in
+    let start = at-hold-raw .before .before .before .before in
+    past-within (omega (arith, start .pre .room))
+    (holds-past heldText (start .args .run .now) _ (start .args .at) _ (at-hold-raw .hold-raw .ensures)
+    (at-h .h .given .1))
 
 is-key-requires : tie.Need-is-key-requires
 is-key-requires c κs = search needs
@@ -62,10 +73,13 @@ same-length-2 c = search needs
 returns-2 : tie.Need-returns-2
 unfolding keyOf
 returns-2 c =
-    let d = (holds-past heldText
-    (c .before .before .before .before .before .before .before .before .before .before .before .before .before .args .run .now) _ (c .before .before .before .before .before .before .before .before .before .before .before .before .before .args .at) (characters (c .before .before .before .before .before .before .before .before .before .before .before .before .before .args .raw .now)) (c .before .before .before .before .before .before .before .before .before .hold-raw .ensures) (c .before .before .before .before .before .h .given .1)) in
-    let n = part-told (omega
-    (arith, c .before .before .before .before .before .before .before .before .before .before .before .before .before .pre .room)) d isKey (c .before .is-key .ensures) (not-true (c .before .is-key .result) (c .if1 .taken)) in
+    let at-h = c .before .before .before .before .before in
+    let at-hold-raw = at-h .before .before .before .before in
+    let start = at-hold-raw .before .before .before .before in
+    let d = (holds-past heldText (start .args .run .now) _ (start .args .at) (characters (start .args .raw .now))
+    (at-hold-raw .hold-raw .ensures) (at-h .h .given .1)) in
+    let n = part-told (omega (arith, start .pre .room)) d isKey (c .before .is-key .ensures)
+    (not-true (c .before .is-key .result) (c .if1 .taken)) in
     record { size = d .extends .size; said = formed-no isKey (λ cs. cs) (d .said) n }
 
 same-length-3 : tie.Need-same-length-3
@@ -74,10 +88,13 @@ same-length-3 c = search needs
 returns-3 : tie.Need-returns-3
 unfolding keyOf
 returns-3 c =
-    let d = (holds-past heldText
-    (c .before .before .before .before .before .before .before .before .before .before .before .before .before .args .run .now) _ (c .before .before .before .before .before .before .before .before .before .before .before .before .before .args .at) (characters (c .before .before .before .before .before .before .before .before .before .before .before .before .before .args .raw .now)) (c .before .before .before .before .before .before .before .before .before .hold-raw .ensures) (c .before .before .before .before .before .h .given .1)) in
-    let n = part-told (omega
-    (arith, c .before .before .before .before .before .before .before .before .before .before .before .before .before .pre .room)) d isKey (c .before .is-key .ensures) (not-false (c .before .is-key .result) (c .if1 .left)) in
+    let at-h = c .before .before .before .before .before in
+    let at-hold-raw = at-h .before .before .before .before in
+    let start = at-hold-raw .before .before .before .before in
+    let d = (holds-past heldText (start .args .run .now) _ (start .args .at) (characters (start .args .raw .now))
+    (at-hold-raw .hold-raw .ensures) (at-h .h .given .1)) in
+    let n = part-told (omega (arith, start .pre .room)) d isKey (c .before .is-key .ensures)
+    (not-false (c .before .is-key .result) (c .if1 .left)) in
     record { thing = d .thing; said = formed-yes isKey (λ cs. cs) (d .said) n; extends = d .extends }
 
 pub hold-key-spec : {M : Type 1} → statement M

@@ -59,37 +59,77 @@ enum-told-2 : tie.Need-enum-told-2 Inv-loop μ-loop
 enum-told-2 c = search needs
 
 same-length-2 : tie.Need-same-length-2 Inv-loop μ-loop
-same-length-2 c = holds-wrong heldValue _ _ _ _ (c .before .before .before .before .hold-entry .ensures _ _
-    (next heldValue (entryOf
-    (c .before .before .before .before .before .before .before .before .before .before .before .before .before .args .k)) (entry-fits (c .before .before .before .before .before .before .before .before .before .before .before .before .before .args .k)) (c .before .before .before .before .before .before .before .before .before .loop .inv) _ ((c .before .before .before .before .before .before .before .m .given) .1) .stands)) (c .enum-told2 .given .1) .size ∙ (c .before .before .before .before .before .before .before .before .before .loop .inv) .sofar .extends .size
+same-length-2 c =
+    let at-hold-entry = c .before .before .before .before in
+    let at-m = at-hold-entry .before .before .before in
+    let at-loop = at-m .before .before in
+    let start = at-loop .before .before .before .before in
+    holds-wrong heldValue _ _ _ _ (at-hold-entry .hold-entry .ensures _ _
+    (next heldValue (entryOf (start .args .k)) (entry-fits (start .args .k)) (at-loop .loop .inv) _
+    ((at-m .m .given) .1) .stands)) (c .enum-told2 .given .1) .size ∙ (at-loop .loop .inv) .sofar .extends .size
 
 returns-2 : tie.Need-returns-2 Inv-loop μ-loop
 returns-2 c =
-    left-told heldValue (entryOf
-    (c .before .before .before .before .before .before .before .before .before .before .before .before .before .args .k)) (entry-fits (c .before .before .before .before .before .before .before .before .before .before .before .before .before .args .k)) (c .before .before .before .before .before .before .before .before .before .loop .inv) (next-wrong heldValue (entryOf (c .before .before .before .before .before .before .before .before .before .before .before .before .before .args .k)) (entry-fits (c .before .before .before .before .before .before .before .before .before .before .before .before .before .args .k)) (c .before .before .before .before .before .before .before .before .before .loop .inv) _ ((c .before .before .before .before .before .before .before .m .given) .1)
-    (holds-wrong heldValue _ _ _ _ (c .before .before .before .before .hold-entry .ensures _ _
-    (next heldValue (entryOf
-    (c .before .before .before .before .before .before .before .before .before .before .before .before .before .args .k)) (entry-fits (c .before .before .before .before .before .before .before .before .before .before .before .before .before .args .k)) (c .before .before .before .before .before .before .before .before .before .loop .inv) _ ((c .before .before .before .before .before .before .before .m .given) .1) .stands)) (c .enum-told2 .given .1)))
+    let at-hold-entry = c .before .before .before .before in
+    let at-m = at-hold-entry .before .before .before in
+    let at-loop = at-m .before .before in
+    let start = at-loop .before .before .before .before in
+    left-told heldValue (entryOf (start .args .k)) (entry-fits (start .args .k)) (at-loop .loop .inv)
+    (next-wrong heldValue (entryOf (start .args .k)) (entry-fits (start .args .k)) (at-loop .loop .inv) _
+    ((at-m .m .given) .1) (holds-wrong heldValue _ _ _ _
+    (at-hold-entry .hold-entry .ensures _ _ (next heldValue (entryOf (start .args .k)) (entry-fits (start .args .k))
+    (at-loop .loop .inv) _ ((at-m .m .given) .1) .stands)) (c .enum-told2 .given .1)))
 
 add-n : tie.Need-add-n Inv-loop μ-loop
-add-n c = let few = next-few heldValue
-    (entryOf (c .before .before .before .before .before .before .before .before .before .before .before .before .before .before .args .k)) (entry-fits (c .before .before .before .before .before .before .before .before .before .before .before .before .before .before .args .k)) (c .before .before .before .before .before .before .before .before .before .before .loop .inv) _ ((c .before .before .before .before .before .before .before .before .m .given) .1) in search needs
+add-n c =
+    let at-m = c .before .before .before .before .before .before .before .before in
+    let at-loop = at-m .before .before in
+    let start = at-loop .before .before .before .before in
+    let few = next-few heldValue (entryOf (start .args .k)) (entry-fits (start .args .k)) (at-loop .loop .inv) _
+    ((at-m .m .given) .1) in
+    search needs
 
 past-value-requires : tie.Need-past-value-requires Inv-loop μ-loop
-past-value-requires c κs = next-standing heldValue
-    (entryOf (c .before .before .before .before .before .before .before .before .before .before .before .before .before .before .args .k)) (entry-fits (c .before .before .before .before .before .before .before .before .before .before .before .before .before .before .args .k)) (c .before .before .before .before .before .before .before .before .before .before .loop .inv) _ ((c .before .before .before .before .before .before .before .before .m .given) .1)
+past-value-requires c κs =
+    let at-m = c .before .before .before .before .before .before .before .before in
+    let at-loop = at-m .before .before in
+    let start = at-loop .before .before .before .before in
+    next-standing heldValue (entryOf (start .args .k)) (entry-fits (start .args .k)) (at-loop .loop .inv) _
+    ((at-m .m .given) .1)
 
 next-element-requires : tie.Need-next-element-requires Inv-loop μ-loop
-next-element-requires c κs = next-resting heldValue
-    (entryOf (c .before .before .before .before .before .before .before .before .before .before .before .before .before .before .before .args .k)) (entry-fits (c .before .before .before .before .before .before .before .before .before .before .before .before .before .before .before .args .k)) (c .before .before .before .before .before .before .before .before .before .before .before .loop .inv) _ ((c .before .before .before .before .before .before .before .before .before .m .given) .1) (c .past-value .ensures _ _ (next heldValue (entryOf (c .before .before .before .before .before .before .before .before .before .before .before .before .before .before .before .args .k)) (entry-fits (c .before .before .before .before .before .before .before .before .before .before .before .before .before .before .before .args .k)) (c .before .before .before .before .before .before .before .before .before .before .before .loop .inv) _ ((c .before .before .before .before .before .before .before .before .before .m .given) .1) .stands))
+next-element-requires c κs =
+    let at-m = c .before .before .before .before .before .before .before .before .before in
+    let at-loop = at-m .before .before in
+    let start = at-loop .before .before .before .before in
+    next-resting heldValue (entryOf (start .args .k)) (entry-fits (start .args .k)) (at-loop .loop .inv) _
+    ((at-m .m .given) .1) (c .past-value .ensures _ _
+    (next heldValue (entryOf (start .args .k)) (entry-fits (start .args .k)) (at-loop .loop .inv) _
+    ((at-m .m .given) .1) .stands))
 
 loop-less : tie.Need-loop-less Inv-loop μ-loop
-loop-less c = gathering-less heldValue
-    (entryOf (c .before .before .before .before .before .before .before .before .before .before .before .before .before .before .before .before .args .k)) (entry-fits (c .before .before .before .before .before .before .before .before .before .before .before .before .before .before .before .before .args .k)) (c .before .before .before .before .before .before .before .before .before .before .before .before .loop .inv) _ ((c .before .before .before .before .before .before .before .before .before .before .m .given) .1) _ _ (c .before .past-value .ensures _ _ (next heldValue (entryOf (c .before .before .before .before .before .before .before .before .before .before .before .before .before .before .before .before .args .k)) (entry-fits (c .before .before .before .before .before .before .before .before .before .before .before .before .before .before .before .before .args .k)) (c .before .before .before .before .before .before .before .before .before .before .before .before .loop .inv) _ ((c .before .before .before .before .before .before .before .before .before .before .m .given) .1) .stands)) (c .next-element .ensures)
+loop-less c =
+    let at-m = c .before .before .before .before .before .before .before .before .before .before in
+    let at-loop = at-m .before .before in
+    let start = at-loop .before .before .before .before in
+    gathering-less heldValue (entryOf (start .args .k)) (entry-fits (start .args .k)) (at-loop .loop .inv) _
+    ((at-m .m .given) .1) _ _ (c .before .past-value .ensures _ _
+    (next heldValue (entryOf (start .args .k)) (entry-fits (start .args .k)) (at-loop .loop .inv) _
+    ((at-m .m .given) .1) .stands)) (c .next-element .ensures)
 
 loop-again : tie.Need-loop-again Inv-loop μ-loop
-loop-again c = gathering-more heldValue
-    (entryOf (c .before .before .before .before .before .before .before .before .before .before .before .before .before .before .before .before .args .k)) (entry-fits (c .before .before .before .before .before .before .before .before .before .before .before .before .before .before .before .before .args .k)) (c .before .before .before .before .before .before .before .before .before .before .before .before .loop .inv) _ ((c .before .before .before .before .before .before .before .before .before .before .m .given) .1) (holds-past heldValue _ _ _ _ (c .before .before .before .before .before .before .before .hold-entry .ensures _ _ (next heldValue (entryOf (c .before .before .before .before .before .before .before .before .before .before .before .before .before .before .before .before .args .k)) (entry-fits (c .before .before .before .before .before .before .before .before .before .before .before .before .before .before .before .before .args .k)) (c .before .before .before .before .before .before .before .before .before .before .before .before .loop .inv) _ ((c .before .before .before .before .before .before .before .before .before .before .m .given) .1) .stands)) (c .before .before .before .h .given .1)) _ _ (c .before .past-value .ensures _ _ (next heldValue (entryOf (c .before .before .before .before .before .before .before .before .before .before .before .before .before .before .before .before .args .k)) (entry-fits (c .before .before .before .before .before .before .before .before .before .before .before .before .before .before .before .before .args .k)) (c .before .before .before .before .before .before .before .before .before .before .before .before .loop .inv) _ ((c .before .before .before .before .before .before .before .before .before .before .m .given) .1) .stands)) (c .next-element .ensures)
+loop-again c =
+    let at-h = c .before .before .before in
+    let at-hold-entry = at-h .before .before .before .before in
+    let at-m = at-hold-entry .before .before .before in
+    let at-loop = at-m .before .before in
+    let start = at-loop .before .before .before .before in
+    gathering-more heldValue (entryOf (start .args .k)) (entry-fits (start .args .k)) (at-loop .loop .inv) _
+    ((at-m .m .given) .1) (holds-past heldValue _ _ _ _
+    (at-hold-entry .hold-entry .ensures _ _ (next heldValue (entryOf (start .args .k)) (entry-fits (start .args .k))
+    (at-loop .loop .inv) _ ((at-m .m .given) .1) .stands)) (at-h .h .given .1)) _ _
+    (c .before .past-value .ensures _ _ (next heldValue (entryOf (start .args .k)) (entry-fits (start .args .k))
+    (at-loop .loop .inv) _ ((at-m .m .given) .1) .stands)) (c .next-element .ensures)
 
 pub hold-list-spec : {M : Type 1} → statement M
 hold-list-spec =

@@ -26,34 +26,32 @@ returns c = λ t e p. let f = (c .before .before .before .before .number-at .ens
 
 put-number-requires : tie.Need-put-number-requires
 put-number-requires c κs =
-    let f = (c .before .before .before .before .before .before .number-at .ensures _ _
-    (c .before .before .before .before .before .before .before .before .before .before .pre .is)) in (
+    let at-k = c .before .before in
+    let at-number-at = at-k .before .before .before .before in
+    let start = at-number-at .before .before .before .before in
+    let f = (at-number-at .number-at .ensures _ _ (start .pre .is)) in (
       record {
         room = omega (
           arith,
-          json-room
-              (c .before .before .before .before .before .before .before .before .before .before .pre .what)
-              (number-told ((c .before .before .before .before .before .before .number-at .ensures _ _
-              (c .before .before .before .before .before .before .before .before .before .before .pre .is)) .said) (c .before .before .k .given .1)),
-          c .before .before .before .before .before .before .before .before .before .before .pre .roomy .room,
+          json-room (start .pre .what)
+              (number-told ((at-number-at .number-at .ensures _ _ (start .pre .is)) .said) (at-k .k .given .1)),
+          start .pre
+              .roomy .room,
           f .size,
         );
-        bounded = omega (
-          arith,
-          c .before .before .before .before .before .before .before .before .before .before .pre .roomy .bounded,
-          f .size,
-        );
+        bounded = omega (arith, start .pre .roomy .bounded, f .size);
       },
-      json-small (c .before .before .before .before .before .before .before .before .before .before .pre .what)
-          (number-told ((c .before .before .before .before .before .before .number-at .ensures _ _
-          (c .before .before .before .before .before .before .before .before .before .before .pre .is)) .said)
-          (c .before .before .k .given .1)),
+      json-small
+          (start .pre .what) (number-told ((at-number-at .number-at .ensures _ _ (start .pre .is)) .said)
+          (at-k .k .given .1)),
     )
 
 same-length-2 : tie.Need-same-length-2
-same-length-2 c = c .before .before .put-number .ensures .size ∙
-    (c .before .before .before .before .before .before .before .before .before .number-at .ensures _ _
-    (c .before .before .before .before .before .before .before .before .before .before .before .before .before .pre .is)) .size
+same-length-2 c =
+    let at-put-number = c .before .before in
+    let at-number-at = at-put-number .before .before .before .before .before .before .before in
+    let start = at-number-at .before .before .before .before in
+    at-put-number .put-number .ensures .size ∙ (at-number-at .number-at .ensures _ _ (start .pre .is)) .size
 
 returns-2 : tie.Need-returns-2
 returns-2 c =

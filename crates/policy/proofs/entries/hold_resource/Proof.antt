@@ -40,17 +40,30 @@ mul-is-resource : tie.Need-mul-is-resource
 mul-is-resource c = search needs
 
 sub-is-resource : tie.Need-sub-is-resource
-sub-is-resource c = past-first
-    (omega (arith, c .before .before .before .before .before .before .before .before .before .pre .roomy .room))
-    (holds-past heldText (c .before .before .before .before .before .before .before .before .before .args .run .now) _ (c .before .before .before .before .before .before .before .before .before .args .at) _ (c .before .before .before .before .before .hold-symbols .ensures _ _ (c .before .before .before .before .before .before .before .before .before .pre .is)) (c .before .h .given .1))
+sub-is-resource c =
+    let at-hold-symbols = c .before .before .before .before .before in
+    let start = at-hold-symbols .before .before .before .before in
+    past-first (omega (arith, start .pre .roomy .room))
+    (holds-past heldText (start .args .run .now) _ (start .args .at) _
+    (at-hold-symbols .hold-symbols .ensures _ _ (start .pre .is)) (c .before .h .given .1))
 
 part-is-resource-start : tie.Need-part-is-resource-start
-part-is-resource-start c = past-first
-    (omega (arith, c .before .before .before .before .before .before .before .before .before .before .pre .roomy .room)) (holds-past heldText (c .before .before .before .before .before .before .before .before .before .before .args .run .now) _ (c .before .before .before .before .before .before .before .before .before .before .args .at) _ (c .before .before .before .before .before .before .hold-symbols .ensures _ _ (c .before .before .before .before .before .before .before .before .before .before .pre .is)) (c .before .before .h .given .1))
+part-is-resource-start c =
+    let at-h = c .before .before in
+    let at-hold-symbols = at-h .before .before .before .before in
+    let start = at-hold-symbols .before .before .before .before in
+    past-first (omega (arith, start .pre .roomy .room))
+    (holds-past heldText (start .args .run .now) _ (start .args .at) _
+    (at-hold-symbols .hold-symbols .ensures _ _ (start .pre .is)) (at-h .h .given .1))
 
 part-is-resource-end : tie.Need-part-is-resource-end
-part-is-resource-end c = past-within
-    (omega (arith, c .before .before .before .before .before .before .before .before .before .before .pre .roomy .room)) (holds-past heldText (c .before .before .before .before .before .before .before .before .before .before .args .run .now) _ (c .before .before .before .before .before .before .before .before .before .before .args .at) _ (c .before .before .before .before .before .before .hold-symbols .ensures _ _ (c .before .before .before .before .before .before .before .before .before .before .pre .is)) (c .before .before .h .given .1))
+part-is-resource-end c =
+    let at-h = c .before .before in
+    let at-hold-symbols = at-h .before .before .before .before in
+    let start = at-hold-symbols .before .before .before .before in
+    past-within (omega (arith, start .pre .roomy .room))
+    (holds-past heldText (start .args .run .now) _ (start .args .at) _
+    (at-hold-symbols .hold-symbols .ensures _ _ (start .pre .is)) (at-h .h .given .1))
 
 is-resource-requires : tie.Need-is-resource-requires
 is-resource-requires c κs = search needs
@@ -61,10 +74,14 @@ same-length-2 c = search needs
 returns-2 : tie.Need-returns-2
 unfolding resourceOf
 returns-2 c =
-    λ t e p. let d = (holds-past heldText
-    (c .before .before .before .before .before .before .before .before .before .before .before .before .before .args .run .now) _ (c .before .before .before .before .before .before .before .before .before .before .before .before .before .args .at) (then (charactersOf t) (symbolsOf true)) (c .before .before .before .before .before .before .before .before .before .hold-symbols .ensures t e p) (c .before .before .before .before .before .h .given .1)) in
-    let n = part-told (omega
-    (arith, c .before .before .before .before .before .before .before .before .before .before .before .before .before .pre .roomy .room)) d isResource (c .before .is-resource .ensures) (not-true (c .before .is-resource .result) (c .if1 .taken)) in
+    let at-h = c .before .before .before .before .before in
+    let at-hold-symbols = at-h .before .before .before .before in
+    let start = at-hold-symbols .before .before .before .before in
+    λ t e p.
+    let d = (holds-past heldText (start .args .run .now) _ (start .args .at) (then (charactersOf t) (symbolsOf true))
+    (at-hold-symbols .hold-symbols .ensures t e p) (at-h .h .given .1)) in
+    let n = part-told (omega (arith, start .pre .roomy .room)) d isResource (c .before .is-resource .ensures)
+    (not-true (c .before .is-resource .result) (c .if1 .taken)) in
     record {
       size = d .extends .size;
       said = resource-formed (charactersOf t) ∙ formed-no isResource (λ cs. cs)
@@ -77,10 +94,14 @@ same-length-3 c = search needs
 returns-3 : tie.Need-returns-3
 unfolding resourceOf
 returns-3 c =
-    λ t e p. let d = (holds-past heldText
-    (c .before .before .before .before .before .before .before .before .before .before .before .before .before .args .run .now) _ (c .before .before .before .before .before .before .before .before .before .before .before .before .before .args .at) (then (charactersOf t) (symbolsOf true)) (c .before .before .before .before .before .before .before .before .before .hold-symbols .ensures t e p) (c .before .before .before .before .before .h .given .1)) in
-    let n = part-told (omega
-    (arith, c .before .before .before .before .before .before .before .before .before .before .before .before .before .pre .roomy .room)) d isResource (c .before .is-resource .ensures) (not-false (c .before .is-resource .result) (c .if1 .left)) in
+    let at-h = c .before .before .before .before .before in
+    let at-hold-symbols = at-h .before .before .before .before in
+    let start = at-hold-symbols .before .before .before .before in
+    λ t e p.
+    let d = (holds-past heldText (start .args .run .now) _ (start .args .at) (then (charactersOf t) (symbolsOf true))
+    (at-hold-symbols .hold-symbols .ensures t e p) (at-h .h .given .1)) in
+    let n = part-told (omega (arith, start .pre .roomy .room)) d isResource (c .before .is-resource .ensures)
+    (not-false (c .before .is-resource .result) (c .if1 .left)) in
     record {
       thing = d .thing;
       said = resource-formed (charactersOf t) ∙ formed-yes isResource (λ cs. cs) (d .said) n;

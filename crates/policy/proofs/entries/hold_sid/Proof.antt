@@ -38,17 +38,30 @@ mul-is-sid : tie.Need-mul-is-sid
 mul-is-sid c = search needs
 
 sub-is-sid : tie.Need-sub-is-sid
-sub-is-sid c = past-first
-    (omega (arith, c .before .before .before .before .before .before .before .before .before .pre .roomy .room))
-    (holds-past heldText (c .before .before .before .before .before .before .before .before .before .args .run .now) _ (c .before .before .before .before .before .before .before .before .before .args .at) _ (c .before .before .before .before .before .hold-text .ensures _ _ (c .before .before .before .before .before .before .before .before .before .pre .is)) (c .before .h .given .1))
+sub-is-sid c =
+    let at-hold-text = c .before .before .before .before .before in
+    let start = at-hold-text .before .before .before .before in
+    past-first (omega (arith, start .pre .roomy .room))
+    (holds-past heldText (start .args .run .now) _ (start .args .at) _
+    (at-hold-text .hold-text .ensures _ _ (start .pre .is)) (c .before .h .given .1))
 
 part-is-sid-start : tie.Need-part-is-sid-start
-part-is-sid-start c = past-first
-    (omega (arith, c .before .before .before .before .before .before .before .before .before .before .pre .roomy .room)) (holds-past heldText (c .before .before .before .before .before .before .before .before .before .before .args .run .now) _ (c .before .before .before .before .before .before .before .before .before .before .args .at) _ (c .before .before .before .before .before .before .hold-text .ensures _ _ (c .before .before .before .before .before .before .before .before .before .before .pre .is)) (c .before .before .h .given .1))
+part-is-sid-start c =
+    let at-h = c .before .before in
+    let at-hold-text = at-h .before .before .before .before in
+    let start = at-hold-text .before .before .before .before in
+    past-first (omega (arith, start .pre .roomy .room))
+    (holds-past heldText (start .args .run .now) _ (start .args .at) _
+    (at-hold-text .hold-text .ensures _ _ (start .pre .is)) (at-h .h .given .1))
 
 part-is-sid-end : tie.Need-part-is-sid-end
-part-is-sid-end c = past-within
-    (omega (arith, c .before .before .before .before .before .before .before .before .before .before .pre .roomy .room)) (holds-past heldText (c .before .before .before .before .before .before .before .before .before .before .args .run .now) _ (c .before .before .before .before .before .before .before .before .before .before .args .at) _ (c .before .before .before .before .before .before .hold-text .ensures _ _ (c .before .before .before .before .before .before .before .before .before .before .pre .is)) (c .before .before .h .given .1))
+part-is-sid-end c =
+    let at-h = c .before .before in
+    let at-hold-text = at-h .before .before .before .before in
+    let start = at-hold-text .before .before .before .before in
+    past-within (omega (arith, start .pre .roomy .room))
+    (holds-past heldText (start .args .run .now) _ (start .args .at) _
+    (at-hold-text .hold-text .ensures _ _ (start .pre .is)) (at-h .h .given .1))
 
 is-sid-requires : tie.Need-is-sid-requires
 is-sid-requires c κs = search needs
@@ -59,10 +72,14 @@ same-length-2 c = search needs
 returns-2 : tie.Need-returns-2
 unfolding sidOf
 returns-2 c =
-    λ t e p. let d = (holds-past heldText
-    (c .before .before .before .before .before .before .before .before .before .before .before .before .before .args .run .now) _ (c .before .before .before .before .before .before .before .before .before .before .before .before .before .args .at) (charactersOf t) (c .before .before .before .before .before .before .before .before .before .hold-text .ensures t e p) (c .before .before .before .before .before .h .given .1)) in
-    let n = part-told (omega
-    (arith, c .before .before .before .before .before .before .before .before .before .before .before .before .before .pre .roomy .room)) d isSid (c .before .is-sid .ensures) (not-true (c .before .is-sid .result) (c .if1 .taken)) in
+    let at-h = c .before .before .before .before .before in
+    let at-hold-text = at-h .before .before .before .before in
+    let start = at-hold-text .before .before .before .before in
+    λ t e p.
+    let d = (holds-past heldText (start .args .run .now) _ (start .args .at) (charactersOf t)
+    (at-hold-text .hold-text .ensures t e p) (at-h .h .given .1)) in
+    let n = part-told (omega (arith, start .pre .roomy .room)) d isSid (c .before .is-sid .ensures)
+    (not-true (c .before .is-sid .result) (c .if1 .taken)) in
     record { size = d .extends .size; said = formed-no isSid (λ cs. cs) (d .said) n }
 
 same-length-3 : tie.Need-same-length-3
@@ -71,10 +88,14 @@ same-length-3 c = search needs
 returns-3 : tie.Need-returns-3
 unfolding sidOf
 returns-3 c =
-    λ t e p. let d = (holds-past heldText
-    (c .before .before .before .before .before .before .before .before .before .before .before .before .before .args .run .now) _ (c .before .before .before .before .before .before .before .before .before .before .before .before .before .args .at) (charactersOf t) (c .before .before .before .before .before .before .before .before .before .hold-text .ensures t e p) (c .before .before .before .before .before .h .given .1)) in
-    let n = part-told (omega
-    (arith, c .before .before .before .before .before .before .before .before .before .before .before .before .before .pre .roomy .room)) d isSid (c .before .is-sid .ensures) (not-false (c .before .is-sid .result) (c .if1 .left)) in
+    let at-h = c .before .before .before .before .before in
+    let at-hold-text = at-h .before .before .before .before in
+    let start = at-hold-text .before .before .before .before in
+    λ t e p.
+    let d = (holds-past heldText (start .args .run .now) _ (start .args .at) (charactersOf t)
+    (at-hold-text .hold-text .ensures t e p) (at-h .h .given .1)) in
+    let n = part-told (omega (arith, start .pre .roomy .room)) d isSid (c .before .is-sid .ensures)
+    (not-false (c .before .is-sid .result) (c .if1 .left)) in
     record { thing = d .thing; said = formed-yes isSid (λ cs. cs) (d .said) n; extends = d .extends }
 
 pub hold-sid-spec : {M : Type 1} → statement M

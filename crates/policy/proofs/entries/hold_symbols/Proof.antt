@@ -34,19 +34,28 @@ mul-symbols : tie.Need-mul-symbols
 mul-symbols c = search needs
 
 sub-symbols : tie.Need-sub-symbols
-sub-symbols c = past-first
-    (omega (arith, c .before .before .before .before .before .before .before .before .before .pre .roomy .room))
-    (holds-past heldText (c .before .before .before .before .before .before .before .before .before .args .run .now) _ (c .before .before .before .before .before .before .before .before .before .args .at) _ (c .before .before .before .before .before .hold-text .ensures _ _ (c .before .before .before .before .before .before .before .before .before .pre .is)) (c .before .h .given .1))
+sub-symbols c =
+    let at-hold-text = c .before .before .before .before .before in
+    let start = at-hold-text .before .before .before .before in
+    past-first (omega (arith, start .pre .roomy .room))
+    (holds-past heldText (start .args .run .now) _ (start .args .at) _
+    (at-hold-text .hold-text .ensures _ _ (start .pre .is)) (c .before .h .given .1))
 
 part-symbols-start : tie.Need-part-symbols-start
-part-symbols-start c = past-first
-    (omega (arith, c .before .before .before .before .before .before .before .before .before .pre .roomy .room))
-    (holds-past heldText (c .before .before .before .before .before .before .before .before .before .args .run .now) _ (c .before .before .before .before .before .before .before .before .before .args .at) _ (c .before .before .before .before .before .hold-text .ensures _ _ (c .before .before .before .before .before .before .before .before .before .pre .is)) (c .before .h .given .1))
+part-symbols-start c =
+    let at-hold-text = c .before .before .before .before .before in
+    let start = at-hold-text .before .before .before .before in
+    past-first (omega (arith, start .pre .roomy .room))
+    (holds-past heldText (start .args .run .now) _ (start .args .at) _
+    (at-hold-text .hold-text .ensures _ _ (start .pre .is)) (c .before .h .given .1))
 
 part-symbols-end : tie.Need-part-symbols-end
-part-symbols-end c = past-within
-    (omega (arith, c .before .before .before .before .before .before .before .before .before .pre .roomy .room))
-    (holds-past heldText (c .before .before .before .before .before .before .before .before .before .args .run .now) _ (c .before .before .before .before .before .before .before .before .before .args .at) _ (c .before .before .before .before .before .hold-text .ensures _ _ (c .before .before .before .before .before .before .before .before .before .pre .is)) (c .before .h .given .1))
+part-symbols-end c =
+    let at-hold-text = c .before .before .before .before .before in
+    let start = at-hold-text .before .before .before .before in
+    past-within (omega (arith, start .pre .roomy .room))
+    (holds-past heldText (start .args .run .now) _ (start .args .at) _
+    (at-hold-text .hold-text .ensures _ _ (start .pre .is)) (c .before .h .given .1))
 
 symbols-requires : tie.Need-symbols-requires
 symbols-requires c κs = search needs
@@ -61,23 +70,34 @@ same-length-2 : tie.Need-same-length-2
 same-length-2 c = search needs
 
 returns-2 : tie.Need-returns-2
-returns-2 c = λ t e p. symbols-none
-    (omega (arith, c .before .before .before .before .before .before .before .before .before .before .before .before .before .before .before .pre .roomy .room)) (holds-past heldText (c .before .before .before .before .before .before .before .before .before .before .before .before .before .before .before .args .run .now) _ (c .before .before .before .before .before .before .before .before .before .before .before .before .before .before .before .args .at) (charactersOf t) (c .before .before .before .before .before .before .before .before .before .before .before .hold-text .ensures t e p) (c .before .before .before .before .before .before .before .h .given .1)) (c .before .before .before .before .before .before .before .before .before .before .before .before .before .before .before .args .wild) _ _ (c .before .before .before .before .symbols .ensures) (c .enum-told2 .given .1)
+returns-2 c =
+    let at-symbols = c .before .before .before .before in
+    let at-h = at-symbols .before .before .before in
+    let at-hold-text = at-h .before .before .before .before in
+    let start = at-hold-text .before .before .before .before in
+    λ t e p. symbols-none (omega (arith, start .pre .roomy .room))
+    (holds-past heldText (start .args .run .now) _ (start .args .at) (charactersOf t)
+    (at-hold-text .hold-text .ensures t e p) (at-h .h .given .1)) (start .args .wild) _ _
+    (at-symbols .symbols .ensures) (c .enum-told2 .given .1)
 
 cast-run : tie.Need-cast-run
 cast-run c =
-    let d = (holds-past heldText
-    (c .before .before .before .before .before .before .before .before .before .before .before .before .before .before .before .before .args .run .now) _ (c .before .before .before .before .before .before .before .before .before .before .before .before .before .before .before .before .args .at) _ (c .before .before .before .before .before .before .before .before .before .before .before .before .hold-text .ensures _ _ (c .before .before .before .before .before .before .before .before .before .before .before .before .before .before .before .before .pre .is)) (c .before .before .before .before .before .before .before .before .h .given .1)) in
-    let few = symbols-few
-    (omega (arith, c .before .before .before .before .before .before .before .before .before .before .before .before .before .before .before .before .pre .roomy .room)) d (c .before .before .before .before .before .before .before .before .before .before .before .before .before .before .before .before .args .wild) _ _ (c .before .before .before .before .before .symbols .ensures) _ (c .before .c .given .1) in
+    let at-symbols = c .before .before .before .before .before in
+    let at-h = at-symbols .before .before .before in
+    let at-hold-text = at-h .before .before .before .before in
+    let start = at-hold-text .before .before .before .before in
+    let d = (holds-past heldText (start .args .run .now) _ (start .args .at) _
+    (at-hold-text .hold-text .ensures _ _ (start .pre .is)) (at-h .h .given .1)) in
+    let few = symbols-few (omega (arith, start .pre .roomy .room)) d (start .args .wild) _ _
+    (at-symbols .symbols .ensures) _ (c .before .c .given .1) in
     let k : c .before .c .given .0 .0 ≤ 16384 = omega (
       arith,
       few,
-      past-within
-          (omega (arith, c .before .before .before .before .before .before .before .before .before .before .before .before .before .before .before .before .pre .roomy .room)) d,
+      past-within (omega (arith, start .pre .roomy .room)) d,
       d .extends .place,
       d .extends .size,
-      c .before .before .before .before .before .before .before .before .before .before .before .before .before .before .before .before .pre .roomy .bounded,
+      start
+          .pre .roomy .bounded,
     ) in search needs
 
 mul-run : tie.Need-mul-run
@@ -85,40 +105,63 @@ mul-run c = search needs
 
 slice-write-run : tie.Need-slice-write-run
 slice-write-run c =
-    let d = (holds-past heldText
-    (c .before .before .before .before .before .before .before .before .before .before .before .before .before .before .before .before .args .run .now) _ (c .before .before .before .before .before .before .before .before .before .before .before .before .before .before .before .before .args .at) _ (c .before .before .before .before .before .before .before .before .before .before .before .before .hold-text .ensures _ _ (c .before .before .before .before .before .before .before .before .before .before .before .before .before .before .before .before .pre .is)) (c .before .before .before .before .before .before .before .before .h .given .1)) in
+    let at-symbols = c .before .before .before .before .before in
+    let at-h = at-symbols .before .before .before in
+    let at-hold-text = at-h .before .before .before .before in
+    let start = at-hold-text .before .before .before .before in
+    let d = (holds-past heldText (start .args .run .now) _ (start .args .at) _
+    (at-hold-text .hold-text .ensures _ _ (start .pre .is)) (at-h .h .given .1)) in
     omega (
       arith,
-      symbols-size
-          (omega (arith, c .before .before .before .before .before .before .before .before .before .before .before .before .before .before .before .before .pre .roomy .room)) d (c .before .before .before .before .before .before .before .before .before .before .before .before .before .before .before .before .args .wild) _ _ (c .before .before .before .before .before .symbols .ensures),
-      past-within (omega (arith, c .before .before .before .before .before .before .before .before .before .before .before .before .before .before .before .before .pre .roomy .room)) d,
+      symbols-size (omega (arith, start .pre .roomy .room)) d (start .args .wild) _ _
+          (at-symbols .symbols .ensures),
+      past-within (omega (arith, start .pre .roomy .room)) d,
       d .extends .place,
-      d .extends .size,
+      d
+          .extends .size,
     )
 
 add-t15 : tie.Need-add-t15
 add-t15 c =
-    let d = (holds-past heldText
-    (c .before .before .before .before .before .before .before .before .before .before .before .before .before .before .before .before .args .run .now) _ (c .before .before .before .before .before .before .before .before .before .before .before .before .before .before .before .before .args .at) _ (c .before .before .before .before .before .before .before .before .before .before .before .before .hold-text .ensures _ _ (c .before .before .before .before .before .before .before .before .before .before .before .before .before .before .before .before .pre .is)) (c .before .before .before .before .before .before .before .before .h .given .1)) in
-    let few = symbols-few
-    (omega (arith, c .before .before .before .before .before .before .before .before .before .before .before .before .before .before .before .before .pre .roomy .room)) d (c .before .before .before .before .before .before .before .before .before .before .before .before .before .before .before .before .args .wild) _ _ (c .before .before .before .before .before .symbols .ensures) _ (c .before .c .given .1) in
+    let at-symbols = c .before .before .before .before .before in
+    let at-h = at-symbols .before .before .before in
+    let at-hold-text = at-h .before .before .before .before in
+    let start = at-hold-text .before .before .before .before in
+    let d = (holds-past heldText (start .args .run .now) _ (start .args .at) _
+    (at-hold-text .hold-text .ensures _ _ (start .pre .is)) (at-h .h .given .1)) in
+    let few = symbols-few (omega (arith, start .pre .roomy .room)) d (start .args .wild) _ _
+    (at-symbols .symbols .ensures) _ (c .before .c .given .1) in
     let k : c .before .c .given .0 .0 ≤ 16384 = omega (
       arith,
       few,
-      past-within
-          (omega (arith, c .before .before .before .before .before .before .before .before .before .before .before .before .before .before .before .before .pre .roomy .room)) d,
+      past-within (omega (arith, start .pre .roomy .room)) d,
       d .extends .place,
       d .extends .size,
-      c .before .before .before .before .before .before .before .before .before .before .before .before .before .before .before .before .pre .roomy .bounded,
+      start
+          .pre .roomy .bounded,
     ) in search needs
 
 same-length-3 : tie.Need-same-length-3
-same-length-3 c = symbols-some
-    (omega (arith, c .before .before .before .before .before .before .before .before .before .before .before .before .before .before .before .before .pre .roomy .room)) (holds-past heldText (c .before .before .before .before .before .before .before .before .before .before .before .before .before .before .before .before .args .run .now) _ (c .before .before .before .before .before .before .before .before .before .before .before .before .before .before .before .before .args .at) _ (c .before .before .before .before .before .before .before .before .before .before .before .before .hold-text .ensures _ _ (c .before .before .before .before .before .before .before .before .before .before .before .before .before .before .before .before .pre .is)) (c .before .before .before .before .before .before .before .before .h .given .1)) (c .before .before .before .before .before .before .before .before .before .before .before .before .before .before .before .before .args .wild) _ _ (c .before .before .before .before .before .symbols .ensures) _ (c .before .c .given .1) .extends .size
+same-length-3 c =
+    let at-symbols = c .before .before .before .before .before in
+    let at-h = at-symbols .before .before .before in
+    let at-hold-text = at-h .before .before .before .before in
+    let start = at-hold-text .before .before .before .before in
+    symbols-some (omega (arith, start .pre .roomy .room))
+    (holds-past heldText (start .args .run .now) _ (start .args .at) _
+    (at-hold-text .hold-text .ensures _ _ (start .pre .is)) (at-h .h .given .1)) (start .args .wild) _ _
+    (at-symbols .symbols .ensures) _ (c .before .c .given .1) .extends .size
 
 returns-3 : tie.Need-returns-3
-returns-3 c = λ t e p. symbols-some
-    (omega (arith, c .before .before .before .before .before .before .before .before .before .before .before .before .before .before .before .before .pre .roomy .room)) (holds-past heldText (c .before .before .before .before .before .before .before .before .before .before .before .before .before .before .before .before .args .run .now) _ (c .before .before .before .before .before .before .before .before .before .before .before .before .before .before .before .before .args .at) (charactersOf t) (c .before .before .before .before .before .before .before .before .before .before .before .before .hold-text .ensures t e p) (c .before .before .before .before .before .before .before .before .h .given .1)) (c .before .before .before .before .before .before .before .before .before .before .before .before .before .before .before .before .args .wild) _ _ (c .before .before .before .before .before .symbols .ensures) _ (c .before .c .given .1)
+returns-3 c =
+    let at-symbols = c .before .before .before .before .before in
+    let at-h = at-symbols .before .before .before in
+    let at-hold-text = at-h .before .before .before .before in
+    let start = at-hold-text .before .before .before .before in
+    λ t e p. symbols-some (omega (arith, start .pre .roomy .room))
+    (holds-past heldText (start .args .run .now) _ (start .args .at) (charactersOf t)
+    (at-hold-text .hold-text .ensures t e p) (at-h .h .given .1)) (start .args .wild) _ _
+    (at-symbols .symbols .ensures) _ (c .before .c .given .1)
 
 pub hold-symbols-spec : {M : Type 1} → statement M
 hold-symbols-spec =

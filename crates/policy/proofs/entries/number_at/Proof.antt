@@ -119,16 +119,30 @@ mul-number-in : tie.Need-mul-number-in
 mul-number-in c = search needs
 
 sub-number-in : tie.Need-sub-number-in
-sub-number-in c = past-first
-    (omega (arith, c .before .before .before .before .before .before .before .before .before .before .before .before .pre .roomy .room)) (holds-past heldText (c .before .before .before .before .before .before .before .before .before .before .before .before .args .run .now) _ (c .before .before .before .before .before .before .before .before .before .before .before .before .args .at) _ (c .before .before .before .before .before .hold-text .ensures _ _ (c .before .before .before .before .before .before .before .before .before .before .before .before .pre .is)) (c .before .h .given .1))
+sub-number-in c =
+    let at-hold-text = c .before .before .before .before .before in
+    let start = at-hold-text .before .before .before .before .before .before .before in
+    past-first (omega (arith, start .pre .roomy .room))
+    (holds-past heldText (start .args .run .now) _ (start .args .at) _
+    (at-hold-text .hold-text .ensures _ _ (start .pre .is)) (c .before .h .given .1))
 
 part-number-in-start : tie.Need-part-number-in-start
-part-number-in-start c = past-first
-    (omega (arith, c .before .before .before .before .before .before .before .before .before .before .before .before .before .pre .roomy .room)) (holds-past heldText (c .before .before .before .before .before .before .before .before .before .before .before .before .before .args .run .now) _ (c .before .before .before .before .before .before .before .before .before .before .before .before .before .args .at) _ (c .before .before .before .before .before .before .hold-text .ensures _ _ (c .before .before .before .before .before .before .before .before .before .before .before .before .before .pre .is)) (c .before .before .h .given .1))
+part-number-in-start c =
+    let at-h = c .before .before in
+    let at-hold-text = at-h .before .before .before .before in
+    let start = at-hold-text .before .before .before .before .before .before .before in
+    past-first (omega (arith, start .pre .roomy .room))
+    (holds-past heldText (start .args .run .now) _ (start .args .at) _
+    (at-hold-text .hold-text .ensures _ _ (start .pre .is)) (at-h .h .given .1))
 
 part-number-in-end : tie.Need-part-number-in-end
-part-number-in-end c = past-within
-    (omega (arith, c .before .before .before .before .before .before .before .before .before .before .before .before .before .pre .roomy .room)) (holds-past heldText (c .before .before .before .before .before .before .before .before .before .before .before .before .before .args .run .now) _ (c .before .before .before .before .before .before .before .before .before .before .before .before .before .args .at) _ (c .before .before .before .before .before .before .hold-text .ensures _ _ (c .before .before .before .before .before .before .before .before .before .before .before .before .before .pre .is)) (c .before .before .h .given .1))
+part-number-in-end c =
+    let at-h = c .before .before in
+    let at-hold-text = at-h .before .before .before .before in
+    let start = at-hold-text .before .before .before .before .before .before .before in
+    past-within (omega (arith, start .pre .roomy .room))
+    (holds-past heldText (start .args .run .now) _ (start .args .at) _
+    (at-hold-text .hold-text .ensures _ _ (start .pre .is)) (at-h .h .given .1))
 
 number-in-requires : tie.Need-number-in-requires
 number-in-requires c κs = search needs
@@ -138,18 +152,23 @@ same-length-2 c = search needs
 
 returns-3 : tie.Need-returns-3
 returns-3 c =
-    λ t e p. let d = (holds-past heldText
-    (c .before .before .before .before .before .before .before .before .before .before .before .before .before .before .before .args .run .now) _ (c .before .before .before .before .before .before .before .before .before .before .before .before .before .before .before .args .at) (charactersOf t) (c .before .before .before .before .before .before .before .before .hold-text .ensures t e p) (c .before .before .before .before .h .given .1)) in
-    let k = number-characters t
-    (ap isNumber (sym (c .before .before .before .before .before .before .before .before .before .before .before .before .kind-at .ensures t e p)) ∙ sym (c .before .before .before .before .before .before .before .before .before .before .before .is-number .ensures) ∙ c .before .before .before .before .before .before .before .before .before .before .if1 .left) in
+    let at-h = c .before .before .before .before in
+    let at-hold-text = at-h .before .before .before .before in
+    let at-if1 = at-hold-text .before .before in
+    let at-is-number = at-if1 .before in
+    let at-kind-at = at-is-number .before in
+    let start = at-kind-at .before .before .before in
+    λ t e p.
+    let d = (holds-past heldText (start .args .run .now) _ (start .args .at) (charactersOf t)
+    (at-hold-text .hold-text .ensures t e p) (at-h .h .given .1)) in
+    let k = number-characters t (ap isNumber (sym (at-kind-at .kind-at .ensures t e p)) ∙ sym
+    (at-is-number .is-number .ensures) ∙ at-if1 .if1 .left) in
     record {
       size = d .extends .size;
-      said = c .number-in .ensures ∙ ap numberIn (part-is (omega (
-        arith,
-        c .before .before .before .before .before .before .before .before .before .before .before .before .before .before .before .pre .roomy .room,
-      )) d) ∙ sym (k ∙ then-read numberIn (d .said));
-      kept = λ n i. extends-kept (d .extends)
-          (omega (arith, c .before .before .before .before .before .before .before .before .before .before .before .before .before .before .before .pre .roomy .room));
+      said = c .number-in .ensures ∙ ap numberIn
+          (part-is (omega (arith, start .pre .roomy .room)) d) ∙ sym (k ∙ then-read numberIn (d .said));
+      kept = λ n i.
+          extends-kept (d .extends) (omega (arith, start .pre .roomy .room));
     }
 
 pub number-at-spec : {M : Type 1} → statement M

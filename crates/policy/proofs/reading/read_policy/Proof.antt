@@ -17,7 +17,16 @@ enum-told : tie.Need-enum-told
 enum-told c = search needs
 
 whole-policy-requires : tie.Need-whole-policy-requires
-whole-policy-requires c κs = record { whole = sym (c .before .before .before .scan .ensures) ∙ c .before .enum-told .given .1; short = omega (arith, c .before .before .before .before .if1 .left); lent = c .before .before .before .before .before .before .before .pre }
+whole-policy-requires c κs =
+    let at-scan = c .before .before .before in
+    let at-if1 = at-scan .before in
+    let start = at-if1 .before .before .before in
+    record {
+      whole = sym (at-scan .scan .ensures) ∙ c .before .enum-told .given .1;
+      short = omega
+          (arith, at-if1 .if1 .left);
+      lent = start .pre;
+    }
 
 enum-known-v : tie.Need-enum-known-v
 enum-known-v c = search needs
@@ -32,10 +41,16 @@ returns-2 : tie.Need-returns-2
 returns-2 c = c .before .before .whole-policy .ensures
 
 returns-3 : tie.Need-returns-3
-returns-3 c = says-broken policyRules _ _ (omega (arith, c .before .before .before .before .if1 .left)) (c .before .before .before .scan .ensures) (c .before .v .given .1)
+returns-3 c =
+    let at-scan = c .before .before .before in
+    let at-if1 = at-scan .before in
+    says-broken policyRules _ _ (omega (arith, at-if1 .if1 .left)) (at-scan .scan .ensures) (c .before .v .given .1)
 
 returns-4 : tie.Need-returns-4
-returns-4 c = says-deep policyRules _ (omega (arith, c .before .before .before .if1 .left)) (c .before .before .scan .ensures) (c .enum-told2 .given .1)
+returns-4 c =
+    let at-scan = c .before .before in
+    let at-if1 = at-scan .before in
+    says-deep policyRules _ (omega (arith, at-if1 .if1 .left)) (at-scan .scan .ensures) (c .enum-told2 .given .1)
 
 pub read-policy-spec : {M : Type 1} → statement M
 read-policy-spec =

@@ -3,7 +3,8 @@ use mathlib.Core.Path.{sym, _∙_}
 use native.Mathlib.Omega.{arith}
 use Rattle.policy.specs.Held.{held}
 use Rattle.policy.proofs.Laws.Formed.{holds-past, holds-wrong}
-use Rattle.policy.proofs.Laws.Reading.{whole-text, root-stands, root-room, held-lies, policy-wrong, policy-over, policy-known}
+use Rattle.policy.proofs.Laws.Reading.{whole-text, root-stands, root-room, held-lies, policy-wrong}
+use Rattle.policy.proofs.Laws.Reading.{policy-over, policy-known}
 use borrow.Author.Needs.{needs}
 use Rattle.policy.proofs.reading.whole_policy.Statement.{statement}
 use Rattle.policy.proofs.reading.whole_policy.Tie as tie
@@ -28,25 +29,84 @@ enum-told : tie.Need-enum-told
 enum-told c = search needs
 
 same-length : tie.Need-same-length
-same-length c = (holds-wrong held (c .before .before .before .before .before .before .before .before .before .args .run .now) _ _ _ (c .before .before .before .before .hold-policy .ensures _ _ (root-stands (c .before .before .before .before .before .before .before .before .before .pre) (c .before .before .before .before .before .before .root .ensures))) (c .enum-told .given .1)) .size
+same-length c =
+    let at-hold-policy = c .before .before .before .before in
+    let at-root = at-hold-policy .before .before in
+    let start = at-root .before .before .before in
+    (holds-wrong held (start .args .run .now) _ _ _
+    (at-hold-policy .hold-policy .ensures _ _ (root-stands (start .pre) (at-root .root .ensures)))
+    (c .enum-told .given .1)) .size
 
 returns : tie.Need-returns
-returns c = policy-wrong (c .before .before .before .before .before .before .before .before .before .pre) ((holds-wrong held (c .before .before .before .before .before .before .before .before .before .args .run .now) _ _ _ (c .before .before .before .before .hold-policy .ensures _ _ (root-stands (c .before .before .before .before .before .before .before .before .before .pre) (c .before .before .before .before .before .before .root .ensures))) (c .enum-told .given .1)) .said)
+returns c =
+    let at-hold-policy = c .before .before .before .before in
+    let at-root = at-hold-policy .before .before in
+    let start = at-root .before .before .before in
+    policy-wrong (start .pre) ((holds-wrong held (start .args .run .now) _ _ _
+    (at-hold-policy .hold-policy .ensures _ _ (root-stands (start .pre) (at-root .root .ensures)))
+    (c .enum-told .given .1)) .said)
 
 over-limit-requires : tie.Need-over-limit-requires
-over-limit-requires c κs = record { thing = (holds-past held (c .before .before .before .before .before .before .before .before .before .before .before .args .run .now) _ _ _ (c .before .before .before .before .before .before .hold-policy .ensures _ _ (root-stands (c .before .before .before .before .before .before .before .before .before .before .before .pre) (c .before .before .before .before .before .before .before .before .root .ensures))) (c .before .before .h .given .1)) .thing; lies = held-lies (c .before .before .before .before .before .before .before .before .before .before .before .pre .lent .bounded) (holds-past held (c .before .before .before .before .before .before .before .before .before .before .before .args .run .now) _ _ _ (c .before .before .before .before .before .before .hold-policy .ensures _ _ (root-stands (c .before .before .before .before .before .before .before .before .before .before .before .pre) (c .before .before .before .before .before .before .before .before .root .ensures))) (c .before .before .h .given .1)) }
+over-limit-requires c κs =
+    let at-h = c .before .before in
+    let at-hold-policy = at-h .before .before .before .before in
+    let at-root = at-hold-policy .before .before in
+    let start = at-root .before .before .before in
+    record {
+      thing = (holds-past held (start .args .run .now) _ _ _
+          (at-hold-policy .hold-policy .ensures _ _ (root-stands (start .pre) (at-root .root .ensures)))
+          (at-h .h .given .1)) .thing;
+      lies = held-lies (start .pre .lent .bounded)
+          (holds-past held (start .args .run .now) _ _ _
+          (at-hold-policy .hold-policy .ensures _ _ (root-stands (start .pre) (at-root .root .ensures)))
+          (at-h .h .given .1));
+    }
 
 same-length-2 : tie.Need-same-length-2
-same-length-2 c = (holds-past held (c .before .before .before .before .before .before .before .before .before .before .before .before .before .args .run .now) _ _ _ (c .before .before .before .before .before .before .before .before .hold-policy .ensures _ _ (root-stands (c .before .before .before .before .before .before .before .before .before .before .before .before .before .pre) (c .before .before .before .before .before .before .before .before .before .before .root .ensures))) (c .before .before .before .before .h .given .1)) .extends .size
+same-length-2 c =
+    let at-h = c .before .before .before .before in
+    let at-hold-policy = at-h .before .before .before .before in
+    let at-root = at-hold-policy .before .before in
+    let start = at-root .before .before .before in
+    (holds-past held (start .args .run .now) _ _ _
+    (at-hold-policy .hold-policy .ensures _ _ (root-stands (start .pre) (at-root .root .ensures)))
+    (at-h .h .given .1)) .extends .size
 
 returns-2 : tie.Need-returns-2
-returns-2 c = policy-over (c .before .before .before .before .before .before .before .before .before .before .before .before .before .pre) _ ((holds-past held (c .before .before .before .before .before .before .before .before .before .before .before .before .before .args .run .now) _ _ _ (c .before .before .before .before .before .before .before .before .hold-policy .ensures _ _ (root-stands (c .before .before .before .before .before .before .before .before .before .before .before .before .before .pre) (c .before .before .before .before .before .before .before .before .before .before .root .ensures))) (c .before .before .before .before .h .given .1)) .said) (sym (c .before .over-limit .ensures _ (held-lies (c .before .before .before .before .before .before .before .before .before .before .before .before .before .pre .lent .bounded) (holds-past held (c .before .before .before .before .before .before .before .before .before .before .before .before .before .args .run .now) _ _ _ (c .before .before .before .before .before .before .before .before .hold-policy .ensures _ _ (root-stands (c .before .before .before .before .before .before .before .before .before .before .before .before .before .pre) (c .before .before .before .before .before .before .before .before .before .before .root .ensures))) (c .before .before .before .before .h .given .1)))) ∙ c .if1 .taken)
+returns-2 c =
+    let at-h = c .before .before .before .before in
+    let at-hold-policy = at-h .before .before .before .before in
+    let at-root = at-hold-policy .before .before in
+    let start = at-root .before .before .before in
+    policy-over (start .pre) _ ((holds-past held (start .args .run .now) _ _ _
+    (at-hold-policy .hold-policy .ensures _ _ (root-stands (start .pre) (at-root .root .ensures)))
+    (at-h .h .given .1)) .said) (sym (c .before .over-limit .ensures _
+    (held-lies (start .pre .lent .bounded) (holds-past held (start .args .run .now) _ _ _
+    (at-hold-policy .hold-policy .ensures _ _ (root-stands (start .pre) (at-root .root .ensures)))
+    (at-h .h .given .1)))) ∙ c .if1 .taken)
 
 same-length-3 : tie.Need-same-length-3
-same-length-3 c = (holds-past held (c .before .before .before .before .before .before .before .before .before .before .before .before .before .args .run .now) _ _ _ (c .before .before .before .before .before .before .before .before .hold-policy .ensures _ _ (root-stands (c .before .before .before .before .before .before .before .before .before .before .before .before .before .pre) (c .before .before .before .before .before .before .before .before .before .before .root .ensures))) (c .before .before .before .before .h .given .1)) .extends .size
+same-length-3 c =
+    let at-h = c .before .before .before .before in
+    let at-hold-policy = at-h .before .before .before .before in
+    let at-root = at-hold-policy .before .before in
+    let start = at-root .before .before .before in
+    (holds-past held (start .args .run .now) _ _ _
+    (at-hold-policy .hold-policy .ensures _ _ (root-stands (start .pre) (at-root .root .ensures)))
+    (at-h .h .given .1)) .extends .size
 
 returns-3 : tie.Need-returns-3
-returns-3 c = policy-known (c .before .before .before .before .before .before .before .before .before .before .before .before .before .pre) (holds-past held (c .before .before .before .before .before .before .before .before .before .before .before .before .before .args .run .now) _ _ _ (c .before .before .before .before .before .before .before .before .hold-policy .ensures _ _ (root-stands (c .before .before .before .before .before .before .before .before .before .before .before .before .before .pre) (c .before .before .before .before .before .before .before .before .before .before .root .ensures))) (c .before .before .before .before .h .given .1)) (sym (c .before .over-limit .ensures _ (held-lies (c .before .before .before .before .before .before .before .before .before .before .before .before .before .pre .lent .bounded) (holds-past held (c .before .before .before .before .before .before .before .before .before .before .before .before .before .args .run .now) _ _ _ (c .before .before .before .before .before .before .before .before .hold-policy .ensures _ _ (root-stands (c .before .before .before .before .before .before .before .before .before .before .before .before .before .pre) (c .before .before .before .before .before .before .before .before .before .before .root .ensures))) (c .before .before .before .before .h .given .1)))) ∙ c .if1 .left)
+returns-3 c =
+    let at-h = c .before .before .before .before in
+    let at-hold-policy = at-h .before .before .before .before in
+    let at-root = at-hold-policy .before .before in
+    let start = at-root .before .before .before in
+    policy-known (start .pre) (holds-past held (start .args .run .now) _ _ _
+    (at-hold-policy .hold-policy .ensures _ _ (root-stands (start .pre) (at-root .root .ensures)))
+    (at-h .h .given .1)) (sym (c .before .over-limit .ensures _
+    (held-lies (start .pre .lent .bounded) (holds-past held (start .args .run .now) _ _ _
+    (at-hold-policy .hold-policy .ensures _ _ (root-stands (start .pre) (at-root .root .ensures)))
+    (at-h .h .given .1)))) ∙ c .if1 .left)
 
 pub whole-policy-spec : {M : Type 1} → statement M
 whole-policy-spec =

@@ -50,60 +50,156 @@ enum-told : tie.Need-enum-told
 enum-told c = search needs
 
 same-length : tie.Need-same-length
-same-length c = (gathers-wrong heldRow
-    (c .before .before .before .before .before .before .before .before .before .before .before .args .run .now) _ _ _
-    (c .before .before .before .before .hold-operators .ensures _ _
-    (object-stands (c .before .before .before .before .before .before .before .before .before .before .before .pre .is) ((kind-told isObject (c .before .before .before .before .before .before .before .before .kind-at .ensures) (c .before .before .before .before .before .before .before .is-object .ensures) (not-false (c .before .before .before .before .before .before .before .is-object .result) (c .before .before .before .before .before .before .if1 .left))) _ _ (c .before .before .before .before .before .before .before .before .before .before .before .pre .is)))) (c .enum-told .given .1)) .size
+same-length c =
+    let at-hold-operators = c .before .before .before .before in
+    let at-if1 = at-hold-operators .before .before in
+    let at-is-object = at-if1 .before in
+    let at-kind-at = at-is-object .before in
+    let start = at-kind-at .before .before .before in
+    (gathers-wrong heldRow (start .args .run .now) _ _ _
+    (at-hold-operators .hold-operators .ensures _ _
+    (object-stands (start .pre .is) ((kind-told isObject (at-kind-at .kind-at .ensures)
+    (at-is-object .is-object .ensures) (not-false (at-is-object .is-object .result) (at-if1 .if1 .left))) _ _
+    (start .pre .is)))) (c .enum-told .given .1)) .size
 
 returns-2 : tie.Need-returns-2
-returns-2 c = λ t e p. object-left conditionOf operatorsIn condition-inside
-    (is-object t ((kind-told isObject
-    (c .before .before .before .before .before .before .before .before .kind-at .ensures)
-    (c .before .before .before .before .before .before .before .is-object .ensures)
-    (not-false (c .before .before .before .before .before .before .before .is-object .result)
-    (c .before .before .before .before .before .before .if1 .left))) t e p) .is)
-    (gathers-wrong heldRow
-    (c .before .before .before .before .before .before .before .before .before .before .before .args .run .now) _ _ _ (c .before .before .before .before .hold-operators .ensures _ _ (object-stands p ((kind-told isObject (c .before .before .before .before .before .before .before .before .kind-at .ensures) (c .before .before .before .before .before .before .before .is-object .ensures) (not-false (c .before .before .before .before .before .before .before .is-object .result) (c .before .before .before .before .before .before .if1 .left))) t e p))) (c .enum-told .given .1))
+returns-2 c =
+    let at-hold-operators = c .before .before .before .before in
+    let at-if1 = at-hold-operators .before .before in
+    let at-is-object = at-if1 .before in
+    let at-kind-at = at-is-object .before in
+    let start = at-kind-at .before .before .before in
+    λ t e p. object-left conditionOf operatorsIn condition-inside
+    (is-object t ((kind-told isObject (at-kind-at .kind-at .ensures) (at-is-object .is-object .ensures)
+    (not-false (at-is-object .is-object .result) (at-if1 .if1 .left))) t e p) .is)
+    (gathers-wrong heldRow (start .args .run .now) _ _ _
+    (at-hold-operators .hold-operators .ensures _ _
+    (object-stands p ((kind-told isObject (at-kind-at .kind-at .ensures) (at-is-object .is-object .ensures)
+    (not-false (at-is-object .is-object .result) (at-if1 .if1 .left))) t e p))) (c .enum-told .given .1))
 
 same-length-2 : tie.Need-same-length-2
-same-length-2 c = (gathers-several heldRow
-    (c .before .before .before .before .before .before .before .before .before .before .before .before .before .args .run .now) _ _ _ (c .before .before .before .before .before .before .hold-operators .ensures _ _ (object-stands (c .before .before .before .before .before .before .before .before .before .before .before .before .before .pre .is) ((kind-told isObject (c .before .before .before .before .before .before .before .before .before .before .kind-at .ensures) (c .before .before .before .before .before .before .before .before .before .is-object .ensures) (not-false (c .before .before .before .before .before .before .before .before .before .is-object .result) (c .before .before .before .before .before .before .before .before .if1 .left))) _ _ (c .before .before .before .before .before .before .before .before .before .before .before .before .before .pre .is)))) (c .before .before .c .given .1)) .extends .size
+same-length-2 c =
+    let at-c = c .before .before in
+    let at-hold-operators = at-c .before .before .before .before in
+    let at-if1 = at-hold-operators .before .before in
+    let at-is-object = at-if1 .before in
+    let at-kind-at = at-is-object .before in
+    let start = at-kind-at .before .before .before in
+    (gathers-several heldRow (start .args .run .now) _ _ _
+    (at-hold-operators .hold-operators .ensures _ _
+    (object-stands (start .pre .is) ((kind-told isObject (at-kind-at .kind-at .ensures)
+    (at-is-object .is-object .ensures) (not-false (at-is-object .is-object .result) (at-if1 .if1 .left))) _ _
+    (start .pre .is)))) (at-c .c .given .1)) .extends .size
 
 returns-3 : tie.Need-returns-3
-returns-3 c = λ t e p. object-none conditionOf operatorsIn condition-inside
-    (is-object t ((kind-told isObject
-    (c .before .before .before .before .before .before .before .before .before .before .kind-at .ensures)
-    (c .before .before .before .before .before .before .before .before .before .is-object .ensures)
-    (not-false (c .before .before .before .before .before .before .before .before .before .is-object .result) (c .before .before .before .before .before .before .before .before .if1 .left))) t e p) .is) (gathers-several heldRow (c .before .before .before .before .before .before .before .before .before .before .before .before .before .args .run .now) _ _ _ (c .before .before .before .before .before .before .hold-operators .ensures _ _ (object-stands p ((kind-told isObject (c .before .before .before .before .before .before .before .before .before .before .kind-at .ensures) (c .before .before .before .before .before .before .before .before .before .is-object .ensures) (not-false (c .before .before .before .before .before .before .before .before .before .is-object .result) (c .before .before .before .before .before .before .before .before .if1 .left))) t e p))) (c .before .before .c .given .1)) (c .if2 .taken)
+returns-3 c =
+    let at-c = c .before .before in
+    let at-hold-operators = at-c .before .before .before .before in
+    let at-if1 = at-hold-operators .before .before in
+    let at-is-object = at-if1 .before in
+    let at-kind-at = at-is-object .before in
+    let start = at-kind-at .before .before .before in
+    λ t e p. object-none conditionOf operatorsIn condition-inside
+    (is-object t ((kind-told isObject (at-kind-at .kind-at .ensures) (at-is-object .is-object .ensures)
+    (not-false (at-is-object .is-object .result) (at-if1 .if1 .left))) t e p) .is)
+    (gathers-several heldRow (start .args .run .now) _ _ _
+    (at-hold-operators .hold-operators .ensures _ _
+    (object-stands p ((kind-told isObject (at-kind-at .kind-at .ensures) (at-is-object .is-object .ensures)
+    (not-false (at-is-object .is-object .result) (at-if1 .if1 .left))) t e p))) (at-c .c .given .1)) (c .if2 .taken)
 
 cast-run : tie.Need-cast-run
 cast-run c =
-    let few = gathered-few row-some
-    (omega (arith, c .before .before .before .before .before .before .before .before .before .before .before .before .before .pre .roomy .room, cost-two (c .before .before .before .before .before .before .before .before .before .before .before .before .before .pre .what) ((kind-told isObject (c .before .before .before .before .before .before .before .before .before .before .kind-at .ensures) (c .before .before .before .before .before .before .before .before .before .is-object .ensures) (not-false (c .before .before .before .before .before .before .before .before .before .is-object .result) (c .before .before .before .before .before .before .before .before .if1 .left))) _ _ (c .before .before .before .before .before .before .before .before .before .before .before .before .before .pre .is)))) (gathers-several heldRow (c .before .before .before .before .before .before .before .before .before .before .before .before .before .args .run .now) _ _ _ (c .before .before .before .before .before .before .hold-operators .ensures _ _ (object-stands (c .before .before .before .before .before .before .before .before .before .before .before .before .before .pre .is) ((kind-told isObject (c .before .before .before .before .before .before .before .before .before .before .kind-at .ensures) (c .before .before .before .before .before .before .before .before .before .is-object .ensures) (not-false (c .before .before .before .before .before .before .before .before .before .is-object .result) (c .before .before .before .before .before .before .before .before .if1 .left))) _ _ (c .before .before .before .before .before .before .before .before .before .before .before .before .before .pre .is)))) (c .before .before .c .given .1)) in
-    let k : c .before .before .c .given .0 .1 .0 ≤ 16384 = omega (
+    let at-c = c .before .before in
+    let at-hold-operators = at-c .before .before .before .before in
+    let at-if1 = at-hold-operators .before .before in
+    let at-is-object = at-if1 .before in
+    let at-kind-at = at-is-object .before in
+    let start = at-kind-at .before .before .before in
+    let few = gathered-few row-some (omega (
       arith,
-      few,
-      c .before .before .before .before .before .before .before .before .before .before .before .before .before .pre .roomy .bounded,
-    ) in search needs
+      start .pre .roomy .room,
+      cost-two (start .pre .what)
+          ((kind-told isObject (at-kind-at .kind-at .ensures) (at-is-object .is-object .ensures)
+          (not-false (at-is-object .is-object .result) (at-if1 .if1 .left))) _ _ (start .pre .is)),
+    ))
+    (gathers-several heldRow (start .args .run .now) _ _ _
+    (at-hold-operators .hold-operators .ensures _ _
+    (object-stands (start .pre .is) ((kind-told isObject (at-kind-at .kind-at .ensures)
+    (at-is-object .is-object .ensures) (not-false (at-is-object .is-object .result) (at-if1 .if1 .left))) _ _
+    (start .pre .is)))) (at-c .c .given .1)) in
+    let k : at-c .c .given .0 .1 .0 ≤ 16384 = omega (arith, few, start .pre .roomy .bounded) in search needs
 
 mul-run : tie.Need-mul-run
 mul-run c = search needs
 
 slice-write-run : tie.Need-slice-write-run
-slice-write-run c = let g =
-    (gathers-several heldRow
-    (c .before .before .before .before .before .before .before .before .before .before .before .before .before .args .run .now) _ _ _ (c .before .before .before .before .before .before .hold-operators .ensures _ _ (object-stands (c .before .before .before .before .before .before .before .before .before .before .before .before .before .pre .is) ((kind-told isObject (c .before .before .before .before .before .before .before .before .before .before .kind-at .ensures) (c .before .before .before .before .before .before .before .before .before .is-object .ensures) (not-false (c .before .before .before .before .before .before .before .before .before .is-object .result) (c .before .before .before .before .before .before .before .before .if1 .left))) _ _ (c .before .before .before .before .before .before .before .before .before .before .before .before .before .pre .is)))) (c .before .before .c .given .1)) in omega (arith, g .extends .size, c .before .before .before .before .before .before .before .before .before .before .before .before .before .pre .roomy .room, cost-two (c .before .before .before .before .before .before .before .before .before .before .before .before .before .pre .what) ((kind-told isObject (c .before .before .before .before .before .before .before .before .before .before .kind-at .ensures) (c .before .before .before .before .before .before .before .before .before .is-object .ensures) (not-false (c .before .before .before .before .before .before .before .before .before .is-object .result) (c .before .before .before .before .before .before .before .before .if1 .left))) _ _ (c .before .before .before .before .before .before .before .before .before .before .before .before .before .pre .is)))
+slice-write-run c =
+    let at-c = c .before .before in
+    let at-hold-operators = at-c .before .before .before .before in
+    let at-if1 = at-hold-operators .before .before in
+    let at-is-object = at-if1 .before in
+    let at-kind-at = at-is-object .before in
+    let start = at-kind-at .before .before .before in
+    let g = (gathers-several heldRow (start .args .run .now) _ _ _
+    (at-hold-operators .hold-operators .ensures _ _
+    (object-stands (start .pre .is) ((kind-told isObject (at-kind-at .kind-at .ensures)
+    (at-is-object .is-object .ensures) (not-false (at-is-object .is-object .result) (at-if1 .if1 .left))) _ _
+    (start .pre .is)))) (at-c .c .given .1)) in
+    omega (
+      arith,
+      g .extends .size,
+      start .pre .roomy .room,
+      cost-two (start .pre .what)
+          ((kind-told isObject (at-kind-at .kind-at .ensures) (at-is-object .is-object .ensures)
+          (not-false (at-is-object .is-object .result) (at-if1 .if1 .left))) _ _ (start .pre .is)),
+    )
 
 same-length-3 : tie.Need-same-length-3
-same-length-3 c = object-laid conditionOf operatorsIn condition-inside (is-object _
-    ((kind-told isObject (c .before .before .before .before .before .before .before .before .before .before .kind-at .ensures) (c .before .before .before .before .before .before .before .before .before .is-object .ensures) (not-false (c .before .before .before .before .before .before .before .before .before .is-object .result) (c .before .before .before .before .before .before .before .before .if1 .left))) _ _ (c .before .before .before .before .before .before .before .before .before .before .before .before .before .pre .is)) .is) (omega (arith, c .before .before .before .before .before .before .before .before .before .before .before .before .before .pre .roomy .room, cost-two (c .before .before .before .before .before .before .before .before .before .before .before .before .before .pre .what) ((kind-told isObject (c .before .before .before .before .before .before .before .before .before .before .kind-at .ensures) (c .before .before .before .before .before .before .before .before .before .is-object .ensures) (not-false (c .before .before .before .before .before .before .before .before .before .is-object .result) (c .before .before .before .before .before .before .before .before .if1 .left))) _ _ (c .before .before .before .before .before .before .before .before .before .before .before .before .before .pre .is)))) (c .if2 .left) (gathers-several heldRow (c .before .before .before .before .before .before .before .before .before .before .before .before .before .args .run .now) _ _ _ (c .before .before .before .before .before .before .hold-operators .ensures _ _ (object-stands (c .before .before .before .before .before .before .before .before .before .before .before .before .before .pre .is) ((kind-told isObject (c .before .before .before .before .before .before .before .before .before .before .kind-at .ensures) (c .before .before .before .before .before .before .before .before .before .is-object .ensures) (not-false (c .before .before .before .before .before .before .before .before .before .is-object .result) (c .before .before .before .before .before .before .before .before .if1 .left))) _ _ (c .before .before .before .before .before .before .before .before .before .before .before .before .before .pre .is)))) (c .before .before .c .given .1)) .extends .size
+same-length-3 c =
+    let at-c = c .before .before in
+    let at-hold-operators = at-c .before .before .before .before in
+    let at-if1 = at-hold-operators .before .before in
+    let at-is-object = at-if1 .before in
+    let at-kind-at = at-is-object .before in
+    let start = at-kind-at .before .before .before in
+    object-laid conditionOf operatorsIn condition-inside
+    (is-object _ ((kind-told isObject (at-kind-at .kind-at .ensures) (at-is-object .is-object .ensures)
+    (not-false (at-is-object .is-object .result) (at-if1 .if1 .left))) _ _ (start .pre .is)) .is)
+    (omega (
+      arith,
+      start .pre .roomy .room,
+      cost-two (start .pre .what)
+          ((kind-told isObject (at-kind-at .kind-at .ensures) (at-is-object .is-object .ensures)
+          (not-false (at-is-object .is-object .result) (at-if1 .if1 .left))) _ _ (start .pre .is)),
+    )) (c .if2 .left)
+    (gathers-several heldRow (start .args .run .now) _ _ _
+    (at-hold-operators .hold-operators .ensures _ _
+    (object-stands (start .pre .is) ((kind-told isObject (at-kind-at .kind-at .ensures)
+    (at-is-object .is-object .ensures) (not-false (at-is-object .is-object .result) (at-if1 .if1 .left))) _ _
+    (start .pre .is)))) (at-c .c .given .1)) .extends .size
 
 returns-4 : tie.Need-returns-4
-returns-4 c = λ t e p. object-laid conditionOf operatorsIn condition-inside
-    (is-object t ((kind-told isObject
-    (c .before .before .before .before .before .before .before .before .before .before .kind-at .ensures)
-    (c .before .before .before .before .before .before .before .before .before .is-object .ensures)
-    (not-false (c .before .before .before .before .before .before .before .before .before .is-object .result) (c .before .before .before .before .before .before .before .before .if1 .left))) t e p) .is) (omega (arith, c .before .before .before .before .before .before .before .before .before .before .before .before .before .pre .roomy .room, cost-two (c .before .before .before .before .before .before .before .before .before .before .before .before .before .pre .what) ((kind-told isObject (c .before .before .before .before .before .before .before .before .before .before .kind-at .ensures) (c .before .before .before .before .before .before .before .before .before .is-object .ensures) (not-false (c .before .before .before .before .before .before .before .before .before .is-object .result) (c .before .before .before .before .before .before .before .before .if1 .left))) _ _ (c .before .before .before .before .before .before .before .before .before .before .before .before .before .pre .is)))) (c .if2 .left) (gathers-several heldRow (c .before .before .before .before .before .before .before .before .before .before .before .before .before .args .run .now) _ _ _ (c .before .before .before .before .before .before .hold-operators .ensures _ _ (object-stands p ((kind-told isObject (c .before .before .before .before .before .before .before .before .before .before .kind-at .ensures) (c .before .before .before .before .before .before .before .before .before .is-object .ensures) (not-false (c .before .before .before .before .before .before .before .before .before .is-object .result) (c .before .before .before .before .before .before .before .before .if1 .left))) t e p))) (c .before .before .c .given .1))
+returns-4 c =
+    let at-c = c .before .before in
+    let at-hold-operators = at-c .before .before .before .before in
+    let at-if1 = at-hold-operators .before .before in
+    let at-is-object = at-if1 .before in
+    let at-kind-at = at-is-object .before in
+    let start = at-kind-at .before .before .before in
+    λ t e p. object-laid conditionOf operatorsIn condition-inside
+    (is-object t ((kind-told isObject (at-kind-at .kind-at .ensures) (at-is-object .is-object .ensures)
+    (not-false (at-is-object .is-object .result) (at-if1 .if1 .left))) t e p) .is)
+    (omega (
+      arith,
+      start .pre .roomy .room,
+      cost-two (start .pre .what)
+          ((kind-told isObject (at-kind-at .kind-at .ensures) (at-is-object .is-object .ensures)
+          (not-false (at-is-object .is-object .result) (at-if1 .if1 .left))) _ _ (start .pre .is)),
+    )) (c .if2 .left)
+    (gathers-several heldRow (start .args .run .now) _ _ _
+    (at-hold-operators .hold-operators .ensures _ _
+    (object-stands p ((kind-told isObject (at-kind-at .kind-at .ensures) (at-is-object .is-object .ensures)
+    (not-false (at-is-object .is-object .result) (at-if1 .if1 .left))) t e p))) (at-c .c .given .1))
 
 pub hold-condition-spec : {M : Type 1} → statement M
 hold-condition-spec =

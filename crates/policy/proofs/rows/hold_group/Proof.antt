@@ -46,31 +46,92 @@ enum-told : tie.Need-enum-told
 enum-told c = search needs
 
 same-length : tie.Need-same-length
-same-length c = (gathers-wrong heldRow
-    (c .before .before .before .before .before .before .before .before .before .before .before .args .run .now) _ _ _
-    (c .before .before .before .before .hold-rows .ensures _ _ (object-stands
-    (c .before .before .before .before .before .before .before .before .before .before .before .pre .is)
-    ((kind-told isObject (c .before .before .before .before .before .before .before .before .kind-at .ensures) (c .before .before .before .before .before .before .before .is-object .ensures) (not-false (c .before .before .before .before .before .before .before .is-object .result) (c .before .before .before .before .before .before .if1 .left))) _ _ (c .before .before .before .before .before .before .before .before .before .before .before .pre .is)))) (c .enum-told .given .1)) .size
+same-length c =
+    let at-hold-rows = c .before .before .before .before in
+    let at-if1 = at-hold-rows .before .before in
+    let at-is-object = at-if1 .before in
+    let at-kind-at = at-is-object .before in
+    let start = at-kind-at .before .before .before in
+    (gathers-wrong heldRow (start .args .run .now) _ _ _
+    (at-hold-rows .hold-rows .ensures _ _ (object-stands (start .pre .is)
+    ((kind-told isObject (at-kind-at .kind-at .ensures) (at-is-object .is-object .ensures)
+    (not-false (at-is-object .is-object .result) (at-if1 .if1 .left))) _ _ (start .pre .is))))
+    (c .enum-told .given .1)) .size
 
 returns-2 : tie.Need-returns-2
-returns-2 c = λ t e p. object-left
-    (rowsOf (operatorIs (c .before .before .before .before .before .before .before .before .before .before .before .args .o))) _ (rows-inside (operatorIs (c .before .before .before .before .before .before .before .before .before .before .before .args .o))) (is-object t ((kind-told isObject (c .before .before .before .before .before .before .before .before .kind-at .ensures) (c .before .before .before .before .before .before .before .is-object .ensures) (not-false (c .before .before .before .before .before .before .before .is-object .result) (c .before .before .before .before .before .before .if1 .left))) t e p) .is) (gathers-wrong heldRow (c .before .before .before .before .before .before .before .before .before .before .before .args .run .now) _ _ _ (c .before .before .before .before .hold-rows .ensures _ _ (object-stands p ((kind-told isObject (c .before .before .before .before .before .before .before .before .kind-at .ensures) (c .before .before .before .before .before .before .before .is-object .ensures) (not-false (c .before .before .before .before .before .before .before .is-object .result) (c .before .before .before .before .before .before .if1 .left))) t e p))) (c .enum-told .given .1))
+returns-2 c =
+    let at-hold-rows = c .before .before .before .before in
+    let at-if1 = at-hold-rows .before .before in
+    let at-is-object = at-if1 .before in
+    let at-kind-at = at-is-object .before in
+    let start = at-kind-at .before .before .before in
+    λ t e p. object-left (rowsOf (operatorIs (start .args .o))) _ (rows-inside (operatorIs (start .args .o)))
+    (is-object t ((kind-told isObject (at-kind-at .kind-at .ensures) (at-is-object .is-object .ensures)
+    (not-false (at-is-object .is-object .result) (at-if1 .if1 .left))) t e p) .is)
+    (gathers-wrong heldRow (start .args .run .now) _ _ _
+    (at-hold-rows .hold-rows .ensures _ _ (object-stands p
+    ((kind-told isObject (at-kind-at .kind-at .ensures) (at-is-object .is-object .ensures)
+    (not-false (at-is-object .is-object .result) (at-if1 .if1 .left))) t e p))) (c .enum-told .given .1))
 
 same-length-2 : tie.Need-same-length-2
-same-length-2 c = (gathers-several heldRow
-    (c .before .before .before .before .before .before .before .before .before .before .before .before .before .args .run .now) _ _ _ (c .before .before .before .before .before .before .hold-rows .ensures _ _ (object-stands (c .before .before .before .before .before .before .before .before .before .before .before .before .before .pre .is) ((kind-told isObject (c .before .before .before .before .before .before .before .before .before .before .kind-at .ensures) (c .before .before .before .before .before .before .before .before .before .is-object .ensures) (not-false (c .before .before .before .before .before .before .before .before .before .is-object .result) (c .before .before .before .before .before .before .before .before .if1 .left))) _ _ (c .before .before .before .before .before .before .before .before .before .before .before .before .before .pre .is)))) (c .before .before .c .given .1)) .extends .size
+same-length-2 c =
+    let at-c = c .before .before in
+    let at-hold-rows = at-c .before .before .before .before in
+    let at-if1 = at-hold-rows .before .before in
+    let at-is-object = at-if1 .before in
+    let at-kind-at = at-is-object .before in
+    let start = at-kind-at .before .before .before in
+    (gathers-several heldRow (start .args .run .now) _ _ _
+    (at-hold-rows .hold-rows .ensures _ _ (object-stands (start .pre .is)
+    ((kind-told isObject (at-kind-at .kind-at .ensures) (at-is-object .is-object .ensures)
+    (not-false (at-is-object .is-object .result) (at-if1 .if1 .left))) _ _ (start .pre .is)))) (at-c .c .given .1))
+    .extends .size
 
 returns-3 : tie.Need-returns-3
-returns-3 c = λ t e p. object-none
-    (rowsOf (operatorIs (c .before .before .before .before .before .before .before .before .before .before .before .before .before .args .o))) _ (rows-inside (operatorIs (c .before .before .before .before .before .before .before .before .before .before .before .before .before .args .o))) (is-object t ((kind-told isObject (c .before .before .before .before .before .before .before .before .before .before .kind-at .ensures) (c .before .before .before .before .before .before .before .before .before .is-object .ensures) (not-false (c .before .before .before .before .before .before .before .before .before .is-object .result) (c .before .before .before .before .before .before .before .before .if1 .left))) t e p) .is) (gathers-several heldRow (c .before .before .before .before .before .before .before .before .before .before .before .before .before .args .run .now) _ _ _ (c .before .before .before .before .before .before .hold-rows .ensures _ _ (object-stands p ((kind-told isObject (c .before .before .before .before .before .before .before .before .before .before .kind-at .ensures) (c .before .before .before .before .before .before .before .before .before .is-object .ensures) (not-false (c .before .before .before .before .before .before .before .before .before .is-object .result) (c .before .before .before .before .before .before .before .before .if1 .left))) t e p))) (c .before .before .c .given .1)) (c .if2 .taken)
+returns-3 c =
+    let at-c = c .before .before in
+    let at-hold-rows = at-c .before .before .before .before in
+    let at-if1 = at-hold-rows .before .before in
+    let at-is-object = at-if1 .before in
+    let at-kind-at = at-is-object .before in
+    let start = at-kind-at .before .before .before in
+    λ t e p. object-none (rowsOf (operatorIs (start .args .o))) _ (rows-inside (operatorIs (start .args .o)))
+    (is-object t ((kind-told isObject (at-kind-at .kind-at .ensures) (at-is-object .is-object .ensures)
+    (not-false (at-is-object .is-object .result) (at-if1 .if1 .left))) t e p) .is)
+    (gathers-several heldRow (start .args .run .now) _ _ _
+    (at-hold-rows .hold-rows .ensures _ _ (object-stands p
+    ((kind-told isObject (at-kind-at .kind-at .ensures) (at-is-object .is-object .ensures)
+    (not-false (at-is-object .is-object .result) (at-if1 .if1 .left))) t e p))) (at-c .c .given .1)) (c .if2 .taken)
 
 same-length-3 : tie.Need-same-length-3
-same-length-3 c = (gathers-several heldRow
-    (c .before .before .before .before .before .before .before .before .before .before .before .before .before .args .run .now) _ _ _ (c .before .before .before .before .before .before .hold-rows .ensures _ _ (object-stands (c .before .before .before .before .before .before .before .before .before .before .before .before .before .pre .is) ((kind-told isObject (c .before .before .before .before .before .before .before .before .before .before .kind-at .ensures) (c .before .before .before .before .before .before .before .before .before .is-object .ensures) (not-false (c .before .before .before .before .before .before .before .before .before .is-object .result) (c .before .before .before .before .before .before .before .before .if1 .left))) _ _ (c .before .before .before .before .before .before .before .before .before .before .before .before .before .pre .is)))) (c .before .before .c .given .1)) .extends .size
+same-length-3 c =
+    let at-c = c .before .before in
+    let at-hold-rows = at-c .before .before .before .before in
+    let at-if1 = at-hold-rows .before .before in
+    let at-is-object = at-if1 .before in
+    let at-kind-at = at-is-object .before in
+    let start = at-kind-at .before .before .before in
+    (gathers-several heldRow (start .args .run .now) _ _ _
+    (at-hold-rows .hold-rows .ensures _ _ (object-stands (start .pre .is)
+    ((kind-told isObject (at-kind-at .kind-at .ensures) (at-is-object .is-object .ensures)
+    (not-false (at-is-object .is-object .result) (at-if1 .if1 .left))) _ _ (start .pre .is)))) (at-c .c .given .1))
+    .extends .size
 
 returns-4 : tie.Need-returns-4
-returns-4 c = λ t e p. object-some
-    (rowsOf (operatorIs (c .before .before .before .before .before .before .before .before .before .before .before .before .before .args .o))) _ (rows-inside (operatorIs (c .before .before .before .before .before .before .before .before .before .before .before .before .before .args .o))) (is-object t ((kind-told isObject (c .before .before .before .before .before .before .before .before .before .before .kind-at .ensures) (c .before .before .before .before .before .before .before .before .before .is-object .ensures) (not-false (c .before .before .before .before .before .before .before .before .before .is-object .result) (c .before .before .before .before .before .before .before .before .if1 .left))) t e p) .is) (gathers-several heldRow (c .before .before .before .before .before .before .before .before .before .before .before .before .before .args .run .now) _ _ _ (c .before .before .before .before .before .before .hold-rows .ensures _ _ (object-stands p ((kind-told isObject (c .before .before .before .before .before .before .before .before .before .before .kind-at .ensures) (c .before .before .before .before .before .before .before .before .before .is-object .ensures) (not-false (c .before .before .before .before .before .before .before .before .before .is-object .result) (c .before .before .before .before .before .before .before .before .if1 .left))) t e p))) (c .before .before .c .given .1)) (c .if2 .left)
+returns-4 c =
+    let at-c = c .before .before in
+    let at-hold-rows = at-c .before .before .before .before in
+    let at-if1 = at-hold-rows .before .before in
+    let at-is-object = at-if1 .before in
+    let at-kind-at = at-is-object .before in
+    let start = at-kind-at .before .before .before in
+    λ t e p. object-some (rowsOf (operatorIs (start .args .o))) _ (rows-inside (operatorIs (start .args .o)))
+    (is-object t ((kind-told isObject (at-kind-at .kind-at .ensures) (at-is-object .is-object .ensures)
+    (not-false (at-is-object .is-object .result) (at-if1 .if1 .left))) t e p) .is)
+    (gathers-several heldRow (start .args .run .now) _ _ _
+    (at-hold-rows .hold-rows .ensures _ _ (object-stands p
+    ((kind-told isObject (at-kind-at .kind-at .ensures) (at-is-object .is-object .ensures)
+    (not-false (at-is-object .is-object .result) (at-if1 .if1 .left))) t e p))) (at-c .c .given .1)) (c .if2 .left)
 
 pub hold-group-spec : {M : Type 1} → statement M
 hold-group-spec =

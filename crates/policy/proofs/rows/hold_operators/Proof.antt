@@ -107,18 +107,20 @@ array-read-if1 c = omega (
 )
 
 same-length-3 : tie.Need-same-length-3 Inv-loop μ-loop
-same-length-3 c = (c .before .before .before .before .before .before .before .before .before .before .loop .inv) .going .sofar .extends .size
+same-length-3 c =
+    let at-loop = c .before .before .before .before .before .before .before .before .before .before in
+    (at-loop .loop .inv) .going .sofar .extends .size
 
 returns-3 : tie.Need-returns-3 Inv-loop μ-loop
-returns-3 c = operators-twice
-    (c .before .before .before .before .before .before .before .before .before .before .loop .inv) _ _ _
-    ((c .before .before .before .before .before .before .before .before .m .given) .1)
-    (operatorIs (c .before .before .before .w .given .0 .0)) (known _
-    ((here (c .before .before .before .before .before .before .before .before .before .before .loop .inv) _
-    _ _ ((c .before .before .before .before .before .before .before .before .m .given) .1)) .head)
-    (c .before .before .before .before .before .operator-named .ensures)
-    (c .before .before .before .w .given .1)) (λ z. c .if1 .taken
-    (ap (λ (j : ℕ). getD (c .before .before .before .before .before .before .before .before .before .before .loop .seen) j 0) (c .before .operator-number .ensures) ∙ z))
+returns-3 c =
+    let at-w = c .before .before .before in
+    let at-operator-named = at-w .before .before in
+    let at-m = at-operator-named .before .before .before in
+    let at-loop = at-m .before .before in
+    operators-twice (at-loop .loop .inv) _ _ _ ((at-m .m .given) .1) (operatorIs (at-w .w .given .0 .0))
+    (known _ ((here (at-loop .loop .inv) _ _ _ ((at-m .m .given) .1)) .head)
+    (at-operator-named .operator-named .ensures) (at-w .w .given .1))
+    (λ z. c .if1 .taken (ap (λ (j : ℕ). getD (at-loop .loop .seen) j 0) (c .before .operator-number .ensures) ∙ z))
 
 mul-seen : tie.Need-mul-seen Inv-loop μ-loop
 mul-seen c = let small = (number-small (operatorIs (c .before .before .before .w .given .0 .0))) in let is =
@@ -144,32 +146,83 @@ enum-told-3 : tie.Need-enum-told-3 Inv-loop μ-loop
 enum-told-3 c = search needs
 
 same-length-4 : tie.Need-same-length-4 Inv-loop μ-loop
-same-length-4 c = (gathers-wrong heldRow _ _ _ _ (c .before .before .before .before .hold-group .ensures _ _
-    ((here (c .before .before .before .before .before .before .before .before .before .before .before .before .before .before .before .before .loop .inv) _ _ _ ((c .before .before .before .before .before .before .before .before .before .before .before .before .before .before .m .given) .1)) .stands)) (c .enum-told3 .given .1)) .size ∙ (c .before .before .before .before .before .before .before .before .before .before .before .before .before .before .before .before .loop .inv) .going .sofar .extends .size
+same-length-4 c =
+    let at-hold-group = c .before .before .before .before in
+    let at-m = at-hold-group .before .before .before .before .before .before .before .before .before .before in
+    let at-loop = at-m .before .before in
+    (gathers-wrong heldRow _ _ _ _ (at-hold-group .hold-group .ensures _ _
+    ((here (at-loop .loop .inv) _ _ _ ((at-m .m .given) .1)) .stands)) (c .enum-told3 .given .1)) .size ∙
+    (at-loop .loop .inv) .going .sofar .extends .size
 
 returns-4 : tie.Need-returns-4 Inv-loop μ-loop
-returns-4 c = operators-wrong
-    (c .before .before .before .before .before .before .before .before .before .before .before .before .before .before .before .before .loop .inv) _ _ _ ((c .before .before .before .before .before .before .before .before .before .before .before .before .before .before .m .given) .1) (group-left _ _ (known _ ((here (c .before .before .before .before .before .before .before .before .before .before .before .before .before .before .before .before .loop .inv) _ _ _ ((c .before .before .before .before .before .before .before .before .before .before .before .before .before .before .m .given) .1)) .head) (c .before .before .before .before .before .before .before .before .before .before .before .operator-named .ensures) (c .before .before .before .before .before .before .before .before .before .w .given .1)) (gathers-wrong heldRow _ _ _ _ (c .before .before .before .before .hold-group .ensures _ _ ((here (c .before .before .before .before .before .before .before .before .before .before .before .before .before .before .before .before .loop .inv) _ _ _ ((c .before .before .before .before .before .before .before .before .before .before .before .before .before .before .m .given) .1)) .stands)) (c .enum-told3 .given .1)))
+returns-4 c =
+    let at-hold-group = c .before .before .before .before in
+    let at-w = at-hold-group .before .before .before .before .before in
+    let at-operator-named = at-w .before .before in
+    let at-m = at-operator-named .before .before .before in
+    let at-loop = at-m .before .before in
+    operators-wrong (at-loop .loop .inv) _ _ _ ((at-m .m .given) .1)
+    (group-left _ _ (known _ ((here (at-loop .loop .inv) _ _ _ ((at-m .m .given) .1)) .head)
+    (at-operator-named .operator-named .ensures) (at-w .w .given .1))
+    (gathers-wrong heldRow _ _ _ _ (at-hold-group .hold-group .ensures _ _
+    ((here (at-loop .loop .inv) _ _ _ ((at-m .m .given) .1)) .stands)) (c .enum-told3 .given .1)))
 
 add-n : tie.Need-add-n Inv-loop μ-loop
-add-n c = let few = operators-few
-    (c .before .before .before .before .before .before .before .before .before .before .before .before .before .before .before .before .before .loop .inv) _ _ _ ((c .before .before .before .before .before .before .before .before .before .before .before .before .before .before .before .m .given) .1) (known _ ((here (c .before .before .before .before .before .before .before .before .before .before .before .before .before .before .before .before .before .loop .inv) _ _ _ ((c .before .before .before .before .before .before .before .before .before .before .before .before .before .before .before .m .given) .1)) .head) (c .before .before .before .before .before .before .before .before .before .before .before .before .operator-named .ensures) (c .before .before .before .before .before .before .before .before .before .before .w .given .1)) (gathers-several heldRow _ _ _ _ (c .before .before .before .before .before .hold-group .ensures _ _ ((here (c .before .before .before .before .before .before .before .before .before .before .before .before .before .before .before .before .before .loop .inv) _ _ _ ((c .before .before .before .before .before .before .before .before .before .before .before .before .before .before .before .m .given) .1)) .stands)) (c .before .c .given .1)) in search needs
+add-n c =
+    let at-hold-group = c .before .before .before .before .before in
+    let at-w = at-hold-group .before .before .before .before .before in
+    let at-operator-named = at-w .before .before in
+    let at-m = at-operator-named .before .before .before in
+    let at-loop = at-m .before .before in
+    let few = operators-few (at-loop .loop .inv) _ _ _ ((at-m .m .given) .1)
+    (known _ ((here (at-loop .loop .inv) _ _ _ ((at-m .m .given) .1)) .head)
+    (at-operator-named .operator-named .ensures) (at-w .w .given .1))
+    (gathers-several heldRow _ _ _ _ (at-hold-group .hold-group .ensures _ _
+    ((here (at-loop .loop .inv) _ _ _ ((at-m .m .given) .1)) .stands)) (c .before .c .given .1)) in
+    search needs
 
 past-value-requires : tie.Need-past-value-requires Inv-loop μ-loop
-past-value-requires c κs = here-standing
-    (c .before .before .before .before .before .before .before .before .before .before .before .before .before .before .before .before .before .loop .inv) _ _ _ ((c .before .before .before .before .before .before .before .before .before .before .before .before .before .before .before .m .given) .1)
+past-value-requires c κs =
+    let at-m = c .before .before .before .before .before .before .before .before .before .before .before .before
+    .before .before .before in
+    let at-loop = at-m .before .before in
+    here-standing (at-loop .loop .inv) _ _ _ ((at-m .m .given) .1)
 
 next-member-requires : tie.Need-next-member-requires Inv-loop μ-loop
-next-member-requires c κs = here-continuing
-    (c .before .before .before .before .before .before .before .before .before .before .before .before .before .before .before .before .before .before .loop .inv) _ _ _ ((c .before .before .before .before .before .before .before .before .before .before .before .before .before .before .before .before .m .given) .1) (c .past-value .ensures _ _ ((here (c .before .before .before .before .before .before .before .before .before .before .before .before .before .before .before .before .before .before .loop .inv) _ _ _ ((c .before .before .before .before .before .before .before .before .before .before .before .before .before .before .before .before .m .given) .1)) .stands))
+next-member-requires c κs =
+    let at-m = c .before .before .before .before .before .before .before .before .before .before .before .before
+    .before .before .before .before in
+    let at-loop = at-m .before .before in
+    here-continuing (at-loop .loop .inv) _ _ _ ((at-m .m .given) .1)
+    (c .past-value .ensures _ _ ((here (at-loop .loop .inv) _ _ _ ((at-m .m .given) .1)) .stands))
 
 loop-less : tie.Need-loop-less Inv-loop μ-loop
-loop-less c = here-less
-    (c .before .before .before .before .before .before .before .before .before .before .before .before .before .before .before .before .before .before .before .loop .inv) _ _ _ ((c .before .before .before .before .before .before .before .before .before .before .before .before .before .before .before .before .before .m .given) .1) _ _ (c .before .past-value .ensures _ _ ((here (c .before .before .before .before .before .before .before .before .before .before .before .before .before .before .before .before .before .before .before .loop .inv) _ _ _ ((c .before .before .before .before .before .before .before .before .before .before .before .before .before .before .before .before .before .m .given) .1)) .stands)) (c .next-member .ensures)
+loop-less c =
+    let at-m = c .before .before .before .before .before .before .before .before .before .before .before .before
+    .before .before .before .before .before in
+    let at-loop = at-m .before .before in
+    here-less (at-loop .loop .inv) _ _ _ ((at-m .m .given) .1) _ _
+    (c .before .past-value .ensures _ _ ((here (at-loop .loop .inv) _ _ _ ((at-m .m .given) .1)) .stands))
+    (c .next-member .ensures)
 
 loop-again : tie.Need-loop-again Inv-loop μ-loop
-loop-again c = operators-more
-    (c .before .before .before .before .before .before .before .before .before .before .before .before .before .before .before .before .before .before .before .loop .inv) _ _ _ ((c .before .before .before .before .before .before .before .before .before .before .before .before .before .before .before .before .before .m .given) .1) (known _ ((here (c .before .before .before .before .before .before .before .before .before .before .before .before .before .before .before .before .before .before .before .loop .inv) _ _ _ ((c .before .before .before .before .before .before .before .before .before .before .before .before .before .before .before .before .before .m .given) .1)) .head) (c .before .before .before .before .before .before .before .before .before .before .before .before .before .before .operator-named .ensures) (c .before .before .before .before .before .before .before .before .before .before .before .before .w .given .1)) (gathers-several heldRow _ _ _ _ (c .before .before .before .before .before .before .before .hold-group .ensures _ _ ((here (c .before .before .before .before .before .before .before .before .before .before .before .before .before .before .before .before .before .before .before .loop .inv) _ _ _ ((c .before .before .before .before .before .before .before .before .before .before .before .before .before .before .before .before .before .m .given) .1)) .stands)) (c .before .before .before .c .given .1)) _ (c .before .before .before .before .before .before .before .before .before .before .operator-number .ensures) (c .before .before .before .before .before .before .before .before .before .if1 .left) _ _ (c .before .past-value .ensures _ _ ((here (c .before .before .before .before .before .before .before .before .before .before .before .before .before .before .before .before .before .before .before .loop .inv) _ _ _ ((c .before .before .before .before .before .before .before .before .before .before .before .before .before .before .before .before .before .m .given) .1)) .stands)) (c .next-member .ensures)
+loop-again c =
+    let at-c = c .before .before .before in
+    let at-hold-group = at-c .before .before .before .before in
+    let at-if1 = at-hold-group .before .before in
+    let at-operator-number = at-if1 .before in
+    let at-w = at-operator-number .before .before in
+    let at-operator-named = at-w .before .before in
+    let at-m = at-operator-named .before .before .before in
+    let at-loop = at-m .before .before in
+    operators-more (at-loop .loop .inv) _ _ _ ((at-m .m .given) .1)
+    (known _ ((here (at-loop .loop .inv) _ _ _ ((at-m .m .given) .1)) .head)
+    (at-operator-named .operator-named .ensures) (at-w .w .given .1))
+    (gathers-several heldRow _ _ _ _ (at-hold-group .hold-group .ensures _ _
+    ((here (at-loop .loop .inv) _ _ _ ((at-m .m .given) .1)) .stands)) (at-c .c .given .1)) _
+    (at-operator-number .operator-number .ensures) (at-if1 .if1 .left) _ _
+    (c .before .past-value .ensures _ _ ((here (at-loop .loop .inv) _ _ _ ((at-m .m .given) .1)) .stands))
+    (c .next-member .ensures)
 
 pub hold-operators-spec : {M : Type 1} → statement M
 hold-operators-spec =

@@ -48,26 +48,25 @@ returns c = λ t e p. row-left
 
 hold-entries-requires : tie.Need-hold-entries-requires
 hold-entries-requires c κs =
-    let k = (holds-past heldText
-    (c .before .before .before .before .before .before .before .before .before .before .before .args .run .now) _ _
-    _ (c .before .before .before .before .before .before .hold-key .ensures) (c .before .before .h .given .1))
-    in record {
-      what = c .before .before .before .before .before .before .before .before .before .before .before .pre .what;
-      stop = c .before .before .before .before .before .before .before .before .before .before .before .pre .stop;
-      is = c .before .before .before .before .before .before .before .before .before .before .before .pre .is;
+    let at-h = c .before .before in
+    let at-hold-key = at-h .before .before .before .before in
+    let start = at-hold-key .before .before .before .before .before in
+    let k = (holds-past heldText (start .args .run .now) _ _ _ (at-hold-key .hold-key .ensures) (at-h .h .given .1))
+    in
+    record {
+      what = start .pre .what;
+      stop = start .pre .stop;
+      is = start .pre .is;
       roomy = record {
         room = omega (
           arith,
-          key-place
-              (operatorIs (c .before .before .before .before .before .before .before .before .before .before .before .args .o)) _ (c .before .before .before .before .before .before .before .before .before .before .before .pre .what) (c .before .before .before .before .before .before .before .before .before .before .before .args .at) k,
-          k .extends .size,
-          c .before .before .before .before .before .before .before .before .before .before .before .pre .roomy .room,
+          key-place (operatorIs (start .args .o)) _ (start .pre .what) (start .args .at) k,
+          k
+              .extends .size,
+          start .pre .roomy .room,
         );
-        bounded = omega (
-          arith,
-          k .extends .size,
-          c .before .before .before .before .before .before .before .before .before .before .before .pre .roomy .bounded,
-        );
+        bounded = omega
+            (arith, k .extends .size, start .pre .roomy .bounded);
       };
     }
 
@@ -78,12 +77,25 @@ enum-told-2 : tie.Need-enum-told-2
 enum-told-2 c = search needs
 
 same-length-2 : tie.Need-same-length-2
-same-length-2 c = holds-wrong (heldList heldValue) _ _ _ _ (c .before .before .before .before .hold-entries .ensures _
-    _ (c .before .before .before .before .before .before .before .before .before .before .before .before .before .before .before .before .pre .is)) (c .enum-told2 .given .1) .size ∙ (holds-past heldText (c .before .before .before .before .before .before .before .before .before .before .before .before .before .before .before .before .args .run .now) _ _ _ (c .before .before .before .before .before .before .before .before .before .before .before .hold-key .ensures) (c .before .before .before .before .before .before .before .h .given .1)) .extends .size
+same-length-2 c =
+    let at-hold-entries = c .before .before .before .before in
+    let at-h = at-hold-entries .before .before .before in
+    let at-hold-key = at-h .before .before .before .before in
+    let start = at-hold-key .before .before .before .before .before in
+    holds-wrong (heldList heldValue) _ _ _ _ (at-hold-entries .hold-entries .ensures _ _ (start .pre .is))
+    (c .enum-told2 .given .1) .size ∙ (holds-past heldText (start .args .run .now) _ _ _
+    (at-hold-key .hold-key .ensures) (at-h .h .given .1)) .extends .size
 
 returns-2 : tie.Need-returns-2
-returns-2 c = λ t e p. row-entries-left
-    (operatorIs (c .before .before .before .before .before .before .before .before .before .before .before .before .before .before .before .before .args .o)) _ t (c .before .before .before .before .before .before .before .before .before .before .before .before .before .before .before .before .args .at) (holds-past heldText (c .before .before .before .before .before .before .before .before .before .before .before .before .before .before .before .before .args .run .now) _ _ _ (c .before .before .before .before .before .before .before .before .before .before .before .hold-key .ensures) (c .before .before .before .before .before .before .before .h .given .1)) (holds-wrong (heldList heldValue) _ _ _ _ (c .before .before .before .before .hold-entries .ensures t e p) (c .enum-told2 .given .1))
+returns-2 c =
+    let at-hold-entries = c .before .before .before .before in
+    let at-h = at-hold-entries .before .before .before in
+    let at-hold-key = at-h .before .before .before .before in
+    let start = at-hold-key .before .before .before .before .before in
+    λ t e p. row-entries-left (operatorIs (start .args .o)) _ t (start .args .at)
+    (holds-past heldText (start .args .run .now) _ _ _ (at-hold-key .hold-key .ensures) (at-h .h .given .1))
+    (holds-wrong (heldList heldValue) _ _ _ _ (at-hold-entries .hold-entries .ensures t e p)
+    (c .enum-told2 .given .1))
 
 operator-number-requires : tie.Need-operator-number-requires
 operator-number-requires c κs = search needs
@@ -92,16 +104,42 @@ mul-run : tie.Need-mul-run
 mul-run c = search needs
 
 slice-write-run : tie.Need-slice-write-run
-slice-write-run c = let k =
-    (holds-past heldText (c .before .before .before .before .before .before .before .before .before .before .before .before .before .before .before .before .before .before .args .run .now) _ _ _ (c .before .before .before .before .before .before .before .before .before .before .before .before .before .hold-key .ensures) (c .before .before .before .before .before .before .before .before .before .h .given .1)) in let d = (holds-past (heldList heldValue) _ _ _ _ (c .before .before .before .before .before .before .hold-entries .ensures _ _ (c .before .before .before .before .before .before .before .before .before .before .before .before .before .before .before .before .before .before .pre .is)) (c .before .before .g .given .1)) in omega (arith, k .extends .size, d .extends .size, c .before .before .before .before .before .before .before .before .before .before .before .before .before .before .before .before .before .before .pre .roomy .room)
+slice-write-run c =
+    let at-g = c .before .before in
+    let at-hold-entries = at-g .before .before .before .before in
+    let at-h = at-hold-entries .before .before .before in
+    let at-hold-key = at-h .before .before .before .before in
+    let start = at-hold-key .before .before .before .before .before in
+    let k = (holds-past heldText (start .args .run .now) _ _ _ (at-hold-key .hold-key .ensures) (at-h .h .given .1))
+    in
+    let d = (holds-past (heldList heldValue) _ _ _ _ (at-hold-entries .hold-entries .ensures _ _ (start .pre .is))
+    (at-g .g .given .1)) in
+    omega (arith, k .extends .size, d .extends .size, start .pre .roomy .room)
 
 same-length-3 : tie.Need-same-length-3
-same-length-3 c = row-laid
-    (operatorIs (c .before .before .before .before .before .before .before .before .before .before .before .before .before .before .before .before .before .before .args .o)) _ _ (c .before .before .before .before .before .before .before .before .before .before .before .before .before .before .before .before .before .before .args .at) (holds-past heldText (c .before .before .before .before .before .before .before .before .before .before .before .before .before .before .before .before .before .before .args .run .now) _ _ _ (c .before .before .before .before .before .before .before .before .before .before .before .before .before .hold-key .ensures) (c .before .before .before .before .before .before .before .before .before .h .given .1)) _ (c .operator-number .ensures) (omega (arith, c .before .before .before .before .before .before .before .before .before .before .before .before .before .before .before .before .before .before .pre .roomy .room)) (holds-past (heldList heldValue) _ _ _ _ (c .before .before .before .before .before .before .hold-entries .ensures _ _ (c .before .before .before .before .before .before .before .before .before .before .before .before .before .before .before .before .before .before .pre .is)) (c .before .before .g .given .1)) .extends .size
+same-length-3 c =
+    let at-g = c .before .before in
+    let at-hold-entries = at-g .before .before .before .before in
+    let at-h = at-hold-entries .before .before .before in
+    let at-hold-key = at-h .before .before .before .before in
+    let start = at-hold-key .before .before .before .before .before in
+    row-laid (operatorIs (start .args .o)) _ _ (start .args .at)
+    (holds-past heldText (start .args .run .now) _ _ _ (at-hold-key .hold-key .ensures) (at-h .h .given .1)) _
+    (c .operator-number .ensures) (omega (arith, start .pre .roomy .room))
+    (holds-past (heldList heldValue) _ _ _ _ (at-hold-entries .hold-entries .ensures _ _ (start .pre .is))
+    (at-g .g .given .1)) .extends .size
 
 returns-3 : tie.Need-returns-3
-returns-3 c = λ t e p. row-laid
-    (operatorIs (c .before .before .before .before .before .before .before .before .before .before .before .before .before .before .before .before .before .before .args .o)) _ t (c .before .before .before .before .before .before .before .before .before .before .before .before .before .before .before .before .before .before .args .at) (holds-past heldText (c .before .before .before .before .before .before .before .before .before .before .before .before .before .before .before .before .before .before .args .run .now) _ _ _ (c .before .before .before .before .before .before .before .before .before .before .before .before .before .hold-key .ensures) (c .before .before .before .before .before .before .before .before .before .h .given .1)) _ (c .operator-number .ensures) (omega (arith, c .before .before .before .before .before .before .before .before .before .before .before .before .before .before .before .before .before .before .pre .roomy .room)) (holds-past (heldList heldValue) _ _ _ _ (c .before .before .before .before .before .before .hold-entries .ensures t e p) (c .before .before .g .given .1))
+returns-3 c =
+    let at-g = c .before .before in
+    let at-hold-entries = at-g .before .before .before .before in
+    let at-h = at-hold-entries .before .before .before in
+    let at-hold-key = at-h .before .before .before .before in
+    let start = at-hold-key .before .before .before .before .before in
+    λ t e p. row-laid (operatorIs (start .args .o)) _ t (start .args .at)
+    (holds-past heldText (start .args .run .now) _ _ _ (at-hold-key .hold-key .ensures) (at-h .h .given .1)) _
+    (c .operator-number .ensures) (omega (arith, start .pre .roomy .room))
+    (holds-past (heldList heldValue) _ _ _ _ (at-hold-entries .hold-entries .ensures t e p) (at-g .g .given .1))
 
 pub hold-row-spec : {M : Type 1} → statement M
 hold-row-spec =

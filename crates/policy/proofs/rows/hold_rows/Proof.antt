@@ -54,44 +54,130 @@ enum-told-2 : tie.Need-enum-told-2 Inv-loop μ-loop
 enum-told-2 c = search needs
 
 same-length-2 : tie.Need-same-length-2 Inv-loop μ-loop
-same-length-2 c = (holds-wrong heldRow _ _ _ _ (c .before .before .before .before .hold-row .ensures _ _
-    (here (operatorIs (c .before .before .before .before .before .before .before .before .before .before .before .before .before .args .o)) (c .before .before .before .before .before .before .before .before .before .loop .inv) _ _ _ ((c .before .before .before .before .before .before .before .m .given) .1) .stands)) (c .enum-told2 .given .1)) .size ∙ (c .before .before .before .before .before .before .before .before .before .loop .inv) .going .sofar .extends .size
+same-length-2 c =
+    let at-hold-row = c .before .before .before .before in
+    let at-m = at-hold-row .before .before .before in
+    let at-loop = at-m .before .before in
+    let start = at-loop .before .before .before .before in
+    (holds-wrong heldRow _ _ _ _ (at-hold-row .hold-row .ensures _ _
+    (here (operatorIs (start .args .o)) (at-loop .loop .inv) _ _ _ ((at-m .m .given) .1) .stands))
+    (c .enum-told2 .given .1)) .size ∙ (at-loop .loop .inv) .going .sofar .extends .size
 
 returns-2 : tie.Need-returns-2 Inv-loop μ-loop
-returns-2 c = apart-wrong
-    (operatorIs (c .before .before .before .before .before .before .before .before .before .before .before .before .before .args .o)) (c .before .before .before .before .before .before .before .before .before .loop .inv) _ _ _ ((c .before .before .before .before .before .before .before .m .given) .1) (holds-wrong heldRow _ _ _ _ (c .before .before .before .before .hold-row .ensures _ _ (here (operatorIs (c .before .before .before .before .before .before .before .before .before .before .before .before .before .args .o)) (c .before .before .before .before .before .before .before .before .before .loop .inv) _ _ _ ((c .before .before .before .before .before .before .before .m .given) .1) .stands)) (c .enum-told2 .given .1))
+returns-2 c =
+    let at-hold-row = c .before .before .before .before in
+    let at-m = at-hold-row .before .before .before in
+    let at-loop = at-m .before .before in
+    let start = at-loop .before .before .before .before in
+    apart-wrong (operatorIs (start .args .o)) (at-loop .loop .inv) _ _ _ ((at-m .m .given) .1)
+    (holds-wrong heldRow _ _ _ _ (at-hold-row .hold-row .ensures _ _
+    (here (operatorIs (start .args .o)) (at-loop .loop .inv) _ _ _ ((at-m .m .given) .1) .stands))
+    (c .enum-told2 .given .1))
 
 has-key-requires : tie.Need-has-key-requires Inv-loop μ-loop
-has-key-requires c κs = row-lying
-    (operatorIs (c .before .before .before .before .before .before .before .before .before .before .before .before .before .before .before .args .o)) (c .before .before .before .before .before .before .before .before .before .before .before .loop .inv) _ _ _ ((c .before .before .before .before .before .before .before .before .before .m .given) .1) (holds-past heldRow _ _ _ _ (c .before .before .before .before .before .before .hold-row .ensures _ _ (here (operatorIs (c .before .before .before .before .before .before .before .before .before .before .before .before .before .before .before .args .o)) (c .before .before .before .before .before .before .before .before .before .before .before .loop .inv) _ _ _ ((c .before .before .before .before .before .before .before .before .before .m .given) .1) .stands)) (c .before .before .h .given .1))
+has-key-requires c κs =
+    let at-h = c .before .before in
+    let at-hold-row = at-h .before .before .before .before in
+    let at-m = at-hold-row .before .before .before in
+    let at-loop = at-m .before .before in
+    let start = at-loop .before .before .before .before in
+    row-lying (operatorIs (start .args .o)) (at-loop .loop .inv) _ _ _ ((at-m .m .given) .1)
+    (holds-past heldRow _ _ _ _ (at-hold-row .hold-row .ensures _ _
+    (here (operatorIs (start .args .o)) (at-loop .loop .inv) _ _ _ ((at-m .m .given) .1) .stands))
+    (at-h .h .given .1))
 
 same-length-3 : tie.Need-same-length-3 Inv-loop μ-loop
-same-length-3 c = apart-size
-    (operatorIs (c .before .before .before .before .before .before .before .before .before .before .before .before .before .before .before .before .before .args .o)) (c .before .before .before .before .before .before .before .before .before .before .before .before .before .loop .inv) _ _ _ ((c .before .before .before .before .before .before .before .before .before .before .before .m .given) .1) (holds-past heldRow _ _ _ _ (c .before .before .before .before .before .before .before .before .hold-row .ensures _ _ (here (operatorIs (c .before .before .before .before .before .before .before .before .before .before .before .before .before .before .before .before .before .args .o)) (c .before .before .before .before .before .before .before .before .before .before .before .before .before .loop .inv) _ _ _ ((c .before .before .before .before .before .before .before .before .before .before .before .m .given) .1) .stands)) (c .before .before .before .before .h .given .1))
+same-length-3 c =
+    let at-h = c .before .before .before .before in
+    let at-hold-row = at-h .before .before .before .before in
+    let at-m = at-hold-row .before .before .before in
+    let at-loop = at-m .before .before in
+    let start = at-loop .before .before .before .before in
+    apart-size (operatorIs (start .args .o)) (at-loop .loop .inv) _ _ _ ((at-m .m .given) .1)
+    (holds-past heldRow _ _ _ _ (at-hold-row .hold-row .ensures _ _
+    (here (operatorIs (start .args .o)) (at-loop .loop .inv) _ _ _ ((at-m .m .given) .1) .stands))
+    (at-h .h .given .1))
 
 returns-3 : tie.Need-returns-3 Inv-loop μ-loop
-returns-3 c = apart-twice
-    (operatorIs (c .before .before .before .before .before .before .before .before .before .before .before .before .before .before .before .before .before .args .o)) (c .before .before .before .before .before .before .before .before .before .before .before .before .before .loop .inv) _ _ _ ((c .before .before .before .before .before .before .before .before .before .before .before .m .given) .1) (holds-past heldRow _ _ _ _ (c .before .before .before .before .before .before .before .before .hold-row .ensures _ _ (here (operatorIs (c .before .before .before .before .before .before .before .before .before .before .before .before .before .before .before .before .before .args .o)) (c .before .before .before .before .before .before .before .before .before .before .before .before .before .loop .inv) _ _ _ ((c .before .before .before .before .before .before .before .before .before .before .before .m .given) .1) .stands)) (c .before .before .before .before .h .given .1)) (sym (c .before .has-key .ensures _ _ ((c .before .before .before .before .before .before .before .before .before .before .before .before .before .loop .inv) .count) (rows-lie (operatorIs (c .before .before .before .before .before .before .before .before .before .before .before .before .before .before .before .before .before .args .o)) (c .before .before .before .before .before .before .before .before .before .before .before .before .before .loop .inv) _ _ _ ((c .before .before .before .before .before .before .before .before .before .before .before .m .given) .1) (holds-past heldRow _ _ _ _ (c .before .before .before .before .before .before .before .before .hold-row .ensures _ _ (here (operatorIs (c .before .before .before .before .before .before .before .before .before .before .before .before .before .before .before .before .before .args .o)) (c .before .before .before .before .before .before .before .before .before .before .before .before .before .loop .inv) _ _ _ ((c .before .before .before .before .before .before .before .before .before .before .before .m .given) .1) .stands)) (c .before .before .before .before .h .given .1))) (row-lies (operatorIs (c .before .before .before .before .before .before .before .before .before .before .before .before .before .before .before .before .before .args .o)) (c .before .before .before .before .before .before .before .before .before .before .before .before .before .loop .inv) _ _ _ ((c .before .before .before .before .before .before .before .before .before .before .before .m .given) .1) (holds-past heldRow _ _ _ _ (c .before .before .before .before .before .before .before .before .hold-row .ensures _ _ (here (operatorIs (c .before .before .before .before .before .before .before .before .before .before .before .before .before .before .before .before .before .args .o)) (c .before .before .before .before .before .before .before .before .before .before .before .before .before .loop .inv) _ _ _ ((c .before .before .before .before .before .before .before .before .before .before .before .m .given) .1) .stands)) (c .before .before .before .before .h .given .1)))) ∙ c .if1 .taken)
+returns-3 c =
+    let at-h = c .before .before .before .before in
+    let at-hold-row = at-h .before .before .before .before in
+    let at-m = at-hold-row .before .before .before in
+    let at-loop = at-m .before .before in
+    let start = at-loop .before .before .before .before in
+    apart-twice (operatorIs (start .args .o)) (at-loop .loop .inv) _ _ _ ((at-m .m .given) .1)
+    (holds-past heldRow _ _ _ _ (at-hold-row .hold-row .ensures _ _
+    (here (operatorIs (start .args .o)) (at-loop .loop .inv) _ _ _ ((at-m .m .given) .1) .stands))
+    (at-h .h .given .1)) (sym (c .before .has-key .ensures _ _ ((at-loop .loop .inv) .count)
+    (rows-lie (operatorIs (start .args .o)) (at-loop .loop .inv) _ _ _ ((at-m .m .given) .1)
+    (holds-past heldRow _ _ _ _ (at-hold-row .hold-row .ensures _ _
+    (here (operatorIs (start .args .o)) (at-loop .loop .inv) _ _ _ ((at-m .m .given) .1) .stands))
+    (at-h .h .given .1))) (row-lies (operatorIs (start .args .o)) (at-loop .loop .inv) _ _ _ ((at-m .m .given) .1)
+    (holds-past heldRow _ _ _ _ (at-hold-row .hold-row .ensures _ _
+    (here (operatorIs (start .args .o)) (at-loop .loop .inv) _ _ _ ((at-m .m .given) .1) .stands))
+    (at-h .h .given .1)))) ∙ c .if1 .taken)
 
 add-n : tie.Need-add-n Inv-loop μ-loop
-add-n c = let few = apart-few
-    (operatorIs (c .before .before .before .before .before .before .before .before .before .before .before .before .before .before .before .before .before .args .o)) (c .before .before .before .before .before .before .before .before .before .before .before .before .before .loop .inv) _ _ _ ((c .before .before .before .before .before .before .before .before .before .before .before .m .given) .1) (holds-past heldRow _ _ _ _ (c .before .before .before .before .before .before .before .before .hold-row .ensures _ _ (here (operatorIs (c .before .before .before .before .before .before .before .before .before .before .before .before .before .before .before .before .before .args .o)) (c .before .before .before .before .before .before .before .before .before .before .before .before .before .loop .inv) _ _ _ ((c .before .before .before .before .before .before .before .before .before .before .before .m .given) .1) .stands)) (c .before .before .before .before .h .given .1)) in search needs
+add-n c =
+    let at-h = c .before .before .before .before in
+    let at-hold-row = at-h .before .before .before .before in
+    let at-m = at-hold-row .before .before .before in
+    let at-loop = at-m .before .before in
+    let start = at-loop .before .before .before .before in
+    let few = apart-few (operatorIs (start .args .o)) (at-loop .loop .inv) _ _ _ ((at-m .m .given) .1)
+    (holds-past heldRow _ _ _ _ (at-hold-row .hold-row .ensures _ _
+    (here (operatorIs (start .args .o)) (at-loop .loop .inv) _ _ _ ((at-m .m .given) .1) .stands))
+    (at-h .h .given .1)) in
+    search needs
 
 past-value-requires : tie.Need-past-value-requires Inv-loop μ-loop
-past-value-requires c κs = here-standing
-    (operatorIs (c .before .before .before .before .before .before .before .before .before .before .before .before .before .before .before .before .before .args .o)) (c .before .before .before .before .before .before .before .before .before .before .before .before .before .loop .inv) _ _ _ ((c .before .before .before .before .before .before .before .before .before .before .before .m .given) .1)
+past-value-requires c κs =
+    let at-m = c .before .before .before .before .before .before .before .before .before .before .before in
+    let at-loop = at-m .before .before in
+    let start = at-loop .before .before .before .before in
+    here-standing (operatorIs (start .args .o)) (at-loop .loop .inv) _ _ _ ((at-m .m .given) .1)
 
 next-member-requires : tie.Need-next-member-requires Inv-loop μ-loop
-next-member-requires c κs = here-continuing
-    (operatorIs (c .before .before .before .before .before .before .before .before .before .before .before .before .before .before .before .before .before .before .args .o)) (c .before .before .before .before .before .before .before .before .before .before .before .before .before .before .loop .inv) _ _ _ ((c .before .before .before .before .before .before .before .before .before .before .before .before .m .given) .1) (c .past-value .ensures _ _ (here (operatorIs (c .before .before .before .before .before .before .before .before .before .before .before .before .before .before .before .before .before .before .args .o)) (c .before .before .before .before .before .before .before .before .before .before .before .before .before .before .loop .inv) _ _ _ ((c .before .before .before .before .before .before .before .before .before .before .before .before .m .given) .1) .stands))
+next-member-requires c κs =
+    let at-m = c .before .before .before .before .before .before .before .before .before .before .before .before in
+    let at-loop = at-m .before .before in
+    let start = at-loop .before .before .before .before in
+    here-continuing (operatorIs (start .args .o)) (at-loop .loop .inv) _ _ _ ((at-m .m .given) .1)
+    (c .past-value .ensures _ _ (here (operatorIs (start .args .o)) (at-loop .loop .inv) _ _ _ ((at-m .m .given) .1)
+    .stands))
 
 loop-less : tie.Need-loop-less Inv-loop μ-loop
-loop-less c = here-less
-    (operatorIs (c .before .before .before .before .before .before .before .before .before .before .before .before .before .before .before .before .before .before .before .args .o)) (c .before .before .before .before .before .before .before .before .before .before .before .before .before .before .before .loop .inv) _ _ _ ((c .before .before .before .before .before .before .before .before .before .before .before .before .before .m .given) .1) _ _ (c .before .past-value .ensures _ _ (here (operatorIs (c .before .before .before .before .before .before .before .before .before .before .before .before .before .before .before .before .before .before .before .args .o)) (c .before .before .before .before .before .before .before .before .before .before .before .before .before .before .before .loop .inv) _ _ _ ((c .before .before .before .before .before .before .before .before .before .before .before .before .before .m .given) .1) .stands)) (c .next-member .ensures)
+loop-less c =
+    let at-m = c .before .before .before .before .before .before .before .before .before .before .before .before
+    .before in
+    let at-loop = at-m .before .before in
+    let start = at-loop .before .before .before .before in
+    here-less (operatorIs (start .args .o)) (at-loop .loop .inv) _ _ _ ((at-m .m .given) .1) _ _
+    (c .before .past-value .ensures _ _ (here (operatorIs (start .args .o)) (at-loop .loop .inv) _ _ _
+    ((at-m .m .given) .1) .stands)) (c .next-member .ensures)
 
 loop-again : tie.Need-loop-again Inv-loop μ-loop
-loop-again c = apart-more
-    (operatorIs (c .before .before .before .before .before .before .before .before .before .before .before .before .before .before .before .before .before .before .before .args .o)) (c .before .before .before .before .before .before .before .before .before .before .before .before .before .before .before .loop .inv) _ _ _ ((c .before .before .before .before .before .before .before .before .before .before .before .before .before .m .given) .1) (holds-past heldRow _ _ _ _ (c .before .before .before .before .before .before .before .before .before .before .hold-row .ensures _ _ (here (operatorIs (c .before .before .before .before .before .before .before .before .before .before .before .before .before .before .before .before .before .before .before .args .o)) (c .before .before .before .before .before .before .before .before .before .before .before .before .before .before .before .loop .inv) _ _ _ ((c .before .before .before .before .before .before .before .before .before .before .before .before .before .m .given) .1) .stands)) (c .before .before .before .before .before .before .h .given .1)) (sym (c .before .before .before .has-key .ensures _ _ ((c .before .before .before .before .before .before .before .before .before .before .before .before .before .before .before .loop .inv) .count) (rows-lie (operatorIs (c .before .before .before .before .before .before .before .before .before .before .before .before .before .before .before .before .before .before .before .args .o)) (c .before .before .before .before .before .before .before .before .before .before .before .before .before .before .before .loop .inv) _ _ _ ((c .before .before .before .before .before .before .before .before .before .before .before .before .before .m .given) .1) (holds-past heldRow _ _ _ _ (c .before .before .before .before .before .before .before .before .before .before .hold-row .ensures _ _ (here (operatorIs (c .before .before .before .before .before .before .before .before .before .before .before .before .before .before .before .before .before .before .before .args .o)) (c .before .before .before .before .before .before .before .before .before .before .before .before .before .before .before .loop .inv) _ _ _ ((c .before .before .before .before .before .before .before .before .before .before .before .before .before .m .given) .1) .stands)) (c .before .before .before .before .before .before .h .given .1))) (row-lies (operatorIs (c .before .before .before .before .before .before .before .before .before .before .before .before .before .before .before .before .before .before .before .args .o)) (c .before .before .before .before .before .before .before .before .before .before .before .before .before .before .before .loop .inv) _ _ _ ((c .before .before .before .before .before .before .before .before .before .before .before .before .before .m .given) .1) (holds-past heldRow _ _ _ _ (c .before .before .before .before .before .before .before .before .before .before .hold-row .ensures _ _ (here (operatorIs (c .before .before .before .before .before .before .before .before .before .before .before .before .before .before .before .before .before .before .before .args .o)) (c .before .before .before .before .before .before .before .before .before .before .before .before .before .before .before .loop .inv) _ _ _ ((c .before .before .before .before .before .before .before .before .before .before .before .before .before .m .given) .1) .stands)) (c .before .before .before .before .before .before .h .given .1)))) ∙ c .before .before .if1 .left) _ _ (c .before .past-value .ensures _ _ (here (operatorIs (c .before .before .before .before .before .before .before .before .before .before .before .before .before .before .before .before .before .before .before .args .o)) (c .before .before .before .before .before .before .before .before .before .before .before .before .before .before .before .loop .inv) _ _ _ ((c .before .before .before .before .before .before .before .before .before .before .before .before .before .m .given) .1) .stands)) (c .next-member .ensures)
+loop-again c =
+    let at-if1 = c .before .before in
+    let at-has-key = at-if1 .before in
+    let at-h = at-has-key .before .before .before in
+    let at-hold-row = at-h .before .before .before .before in
+    let at-m = at-hold-row .before .before .before in
+    let at-loop = at-m .before .before in
+    let start = at-loop .before .before .before .before in
+    apart-more (operatorIs (start .args .o)) (at-loop .loop .inv) _ _ _ ((at-m .m .given) .1)
+    (holds-past heldRow _ _ _ _ (at-hold-row .hold-row .ensures _ _
+    (here (operatorIs (start .args .o)) (at-loop .loop .inv) _ _ _ ((at-m .m .given) .1) .stands))
+    (at-h .h .given .1)) (sym (at-has-key .has-key .ensures _ _ ((at-loop .loop .inv) .count)
+    (rows-lie (operatorIs (start .args .o)) (at-loop .loop .inv) _ _ _ ((at-m .m .given) .1)
+    (holds-past heldRow _ _ _ _ (at-hold-row .hold-row .ensures _ _
+    (here (operatorIs (start .args .o)) (at-loop .loop .inv) _ _ _ ((at-m .m .given) .1) .stands))
+    (at-h .h .given .1))) (row-lies (operatorIs (start .args .o)) (at-loop .loop .inv) _ _ _ ((at-m .m .given) .1)
+    (holds-past heldRow _ _ _ _ (at-hold-row .hold-row .ensures _ _
+    (here (operatorIs (start .args .o)) (at-loop .loop .inv) _ _ _ ((at-m .m .given) .1) .stands))
+    (at-h .h .given .1)))) ∙ at-if1 .if1 .left) _ _
+    (c .before .past-value .ensures _ _ (here (operatorIs (start .args .o)) (at-loop .loop .inv) _ _ _
+    ((at-m .m .given) .1) .stands)) (c .next-member .ensures)
 
 pub hold-rows-spec : {M : Type 1} → statement M
 hold-rows-spec =

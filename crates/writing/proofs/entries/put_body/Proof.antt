@@ -27,14 +27,24 @@ returns c =
 
 add-from : tie.Need-add-from
 add-from c =
-    omega (arith, (let y = text-lying (c .before .before .before .before .pre) (c .if1 .left) in texted (y .thing) (y .lies)) .ends, (let y = text-lying (c .before .before .before .before .pre) (c .if1 .left) in texted (y .thing) (y .lies)) .bounded)
+    let start = c .before .before .before .before in
+    omega (
+      arith,
+      (let y = text-lying (start .pre) (c .if1 .left) in texted (y .thing) (y .lies)) .ends,
+      (let y = text-lying (start .pre) (c .if1 .left) in texted (y .thing) (y .lies)) .bounded,
+    )
 
 cast-to : tie.Need-cast-to
 cast-to c = search needs
 
 add-to : tie.Need-add-to
 add-to c =
-    omega (arith, (let y = text-lying (c .before .before .before .before .pre) (c .if1 .left) in texted (y .thing) (y .lies)) .ends, (let y = text-lying (c .before .before .before .before .pre) (c .if1 .left) in texted (y .thing) (y .lies)) .bounded)
+    let start = c .before .before .before .before in
+    omega (
+      arith,
+      (let y = text-lying (start .pre) (c .if1 .left) in texted (y .thing) (y .lies)) .ends,
+      (let y = text-lying (start .pre) (c .if1 .left) in texted (y .thing) (y .lies)) .bounded,
+    )
 
 mul-put-bare : tie.Need-mul-put-bare
 mul-put-bare c = search needs
@@ -47,7 +57,9 @@ part-put-bare-start c = omega arith
 
 part-put-bare-end : tie.Need-part-put-bare-end
 part-put-bare-end c =
-    (let y = text-lying (c .before .before .before .before .before .before .pre) (c .before .before .if1 .left) in texted (y .thing) (y .lies)) .ends
+    let at-if1 = c .before .before in
+    let start = at-if1 .before .before .before .before in
+    (let y = text-lying (start .pre) (at-if1 .if1 .left) in texted (y .thing) (y .lies)) .ends
 
 put-bare-requires : tie.Need-put-bare-requires
 put-bare-requires c κs = search needs
@@ -57,7 +69,10 @@ same-length-2 c = search needs
 
 returns-2 : tie.Need-returns-2
 returns-2 c =
-    λ x l. body-bare _ x l (c .before .before .before .before .before .before .if1 .left) (c .before .before .before .before .before .if2 .taken) (c .before .before .put-bare .ensures)
+    let at-put-bare = c .before .before in
+    let at-if2 = at-put-bare .before .before .before in
+    let at-if1 = at-if2 .before in
+    λ x l. body-bare _ x l (at-if1 .if1 .left) (at-if2 .if2 .taken) (at-put-bare .put-bare .ensures)
 
 mul-put-spelled : tie.Need-mul-put-spelled
 mul-put-spelled c = search needs
@@ -70,7 +85,9 @@ part-put-spelled-start c = omega arith
 
 part-put-spelled-end : tie.Need-part-put-spelled-end
 part-put-spelled-end c =
-    (let y = text-lying (c .before .before .before .before .before .before .pre) (c .before .before .if1 .left) in texted (y .thing) (y .lies)) .ends
+    let at-if1 = c .before .before in
+    let start = at-if1 .before .before .before .before in
+    (let y = text-lying (start .pre) (at-if1 .if1 .left) in texted (y .thing) (y .lies)) .ends
 
 put-spelled-requires : tie.Need-put-spelled-requires
 put-spelled-requires c κs = search needs
@@ -80,7 +97,10 @@ same-length-3 c = search needs
 
 returns-3 : tie.Need-returns-3
 returns-3 c =
-    λ x l. body-spelled _ x l (c .before .before .before .before .before .before .if1 .left) (c .before .before .before .before .before .if2 .left) (c .before .before .put-spelled .ensures)
+    let at-put-spelled = c .before .before in
+    let at-if2 = at-put-spelled .before .before .before in
+    let at-if1 = at-if2 .before in
+    λ x l. body-spelled _ x l (at-if1 .if1 .left) (at-if2 .if2 .left) (at-put-spelled .put-spelled .ensures)
 
 pub put-body-spec : {M : Type 1} → statement M
 put-body-spec =

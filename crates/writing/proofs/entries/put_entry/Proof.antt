@@ -20,7 +20,10 @@ same-length c = search needs
 returns : tie.Need-returns
 unfolding entryBytes
 returns c =
-    λ x l. adds-then (c .before .before .before .before .before .before .before .before .before .before .put .ensures) (adds-then (c .before .before .before .before .before .before .put-body .ensures x l) (c .before .before .put2 .ensures))
+    let at-put2 = c .before .before in
+    let at-put-body = at-put2 .before .before .before .before in
+    let at-put = at-put-body .before .before .before .before in
+    λ x l. adds-then (at-put .put .ensures) (adds-then (at-put-body .put-body .ensures x l) (at-put2 .put2 .ensures))
 
 pub put-entry-spec : {M : Type 1} → statement M
 put-entry-spec =

@@ -13,7 +13,8 @@ use Rattle.writing.proofs.entries.put_list.Statement.{statement}
 use Rattle.writing.proofs.entries.put_list.Tie as tie
 
 abbrev Inv-loop : tie.InvT-loop
-Inv-loop kind run at out₀ o n next₀ e₀ i₀ out next e i = Tellings heldValue (listed (entryBytes kind)) run (at + 1) out₀ next₀ n i e i out next
+Inv-loop kind run at out₀ o n next₀ e₀ i₀ out next e i =
+    Tellings heldValue (listed (entryBytes kind)) run (at + 1) out₀ next₀ n i e i out next
 
 abbrev μ-loop : tie.MeasureT-loop
 μ-loop kind run at out₀ o n next₀ e₀ i₀ out next e i = n - i
@@ -32,7 +33,8 @@ put-requires c κs = search needs
 
 add-e : tie.Need-add-e Inv-loop μ-loop
 add-e c =
-    omega (arith, lies-inside (c .before .before .before .before .before .before .before .pre .lies), c .before .before .before .before .before .before .before .pre .lies .bounded)
+    let start = c .before .before .before .before .before .before .before in
+    omega (arith, lies-inside (start .pre .lies), start .pre .lies .bounded)
 
 loop-holds : tie.Need-loop-holds Inv-loop μ-loop
 loop-holds c = λ xs k l. telling-start xs k l
@@ -42,36 +44,67 @@ put-between-requires c κs = search needs
 
 put-entry-requires : tie.Need-put-entry-requires Inv-loop μ-loop
 put-entry-requires c κs =
-    telling-lying (let y = list-lying (c .before .before .before .before .before .before .before .before .before .before .before .before .before .before .pre) in c .before .before .before .before .before .before .loop .inv (y .things) (y .count) (y .lies)) (c .before .before .before .before .before .loop-test .taken)
+    let at-loop-test = c .before .before .before .before .before in
+    let at-loop = at-loop-test .before in
+    let start = at-loop .before .before .before .before .before .before .before .before in
+    telling-lying (let y = list-lying (start .pre) in at-loop .loop .inv (y .things) (y .count) (y .lies))
+    (at-loop-test .loop-test .taken)
 
 past-value-requires : tie.Need-past-value-requires Inv-loop μ-loop
 past-value-requires c κs =
-    telling-lying (let y = list-lying (c .before .before .before .before .before .before .before .before .before .before .before .before .before .before .before .before .before .pre) in c .before .before .before .before .before .before .before .before .before .loop .inv (y .things) (y .count) (y .lies)) (c .before .before .before .before .before .before .before .before .loop-test .taken)
+    let at-loop-test = c .before .before .before .before .before .before .before .before in
+    let at-loop = at-loop-test .before in
+    let start = at-loop .before .before .before .before .before .before .before .before in
+    telling-lying (let y = list-lying (start .pre) in at-loop .loop .inv (y .things) (y .count) (y .lies))
+    (at-loop-test .loop-test .taken)
 
 add-i : tie.Need-add-i Inv-loop μ-loop
 add-i c =
-    omega (arith, c .before .before .before .before .before .before .before .before .before .loop-test .taken, c .before .before .before .before .before .before .before .before .before .before .before .before .before .before .before .shared-slice-known2 .given (c .before .before .before .before .before .before .before .before .before .before .before .before .before .before .before .before .before .before .args .at))
+    let at-loop-test = c .before .before .before .before .before .before .before .before .before in
+    let at-shared-slice-known2 = at-loop-test .before .before .before .before .before .before in
+    let start = at-shared-slice-known2 .before .before .before in
+    omega (
+      arith,
+      at-loop-test .loop-test .taken,
+      at-shared-slice-known2 .shared-slice-known2 .given
+          (start .args .at),
+    )
 
 loop-less : tie.Need-loop-less Inv-loop μ-loop
 loop-less c = search needs
 
 loop-again : tie.Need-loop-again Inv-loop μ-loop
 loop-again c =
-    λ xs k l. telling-next (c .before .before .before .before .before .before .before .before .before .before .loop .inv xs k l) (c .before .before .before .before .before .before .before .before .before .loop-test .taken) _ _ _ _
-    (λ x m. listed-piece _ (c .before .before .before .before .before .before .before .before .before .before .loop .inv xs k l) x (c .past-value .ensures x m) (c .before .before .before .before .before .before .before .put-between .ensures) (c .before .before .before .put-entry .ensures x m))
+    let at-put-entry = c .before .before .before in
+    let at-put-between = at-put-entry .before .before .before .before in
+    let at-loop-test = at-put-between .before .before in
+    let at-loop = at-loop-test .before in
+    λ xs k l. telling-next (at-loop .loop .inv xs k l) (at-loop-test .loop-test .taken) _ _ _ _
+    (λ x m. listed-piece _ (at-loop .loop .inv xs k l) x (c .past-value .ensures x m)
+    (at-put-between .put-between .ensures) (at-put-entry .put-entry .ensures x m))
 
 put-requires-2 : tie.Need-put-requires-2 Inv-loop μ-loop
 put-requires-2 c κs = search needs
 
 same-length : tie.Need-same-length Inv-loop μ-loop
 same-length c =
-    c .before .before .put2 .ensures .size ∙ (let y = list-lying (c .before .before .before .before .before .before .before .before .before .before .before .before .before .pre) in c .before .before .before .before .before .loop .inv (y .things) (y .count) (y .lies)) .adds .size ∙ c .before .before .before .before .before .before .before .before .put .ensures .size
+    let at-put2 = c .before .before in
+    let at-loop = at-put2 .before .before .before in
+    let at-put = at-loop .before .before .before in
+    let start = at-put .before .before .before .before .before in
+    at-put2 .put2 .ensures .size ∙ (let y = list-lying (start .pre) in at-loop .loop .inv (y .things) (y .count)
+    (y .lies)) .adds .size ∙ at-put .put .ensures .size
 
 returns : tie.Need-returns Inv-loop μ-loop
 unfolding listBytes listed
 returns c =
-    λ xs l. adds-then (c .before .before .before .before .before .before .before .before .put .ensures)
-    (adds-then (telling-end (c .before .before .before .before .before .loop .inv xs (lies-first l) (lies-next l)) (c .before .before .before .before .loop-test .left) refl) (c .before .before .put2 .ensures))
+    let at-put2 = c .before .before in
+    let at-loop-test = at-put2 .before .before in
+    let at-loop = at-loop-test .before in
+    let at-put = at-loop .before .before .before in
+    λ xs l. adds-then (at-put .put .ensures)
+    (adds-then (telling-end (at-loop .loop .inv xs (lies-first l) (lies-next l)) (at-loop-test .loop-test .left) refl)
+    (at-put2 .put2 .ensures))
 
 pub put-list-spec : {M : Type 1} → statement M
 put-list-spec =

@@ -35,7 +35,10 @@ same-length c = search needs
 
 returns : tie.Need-returns
 returns c =
-    λ n l. adds-as (ap (digitsUpTo 15) (c .before .before .before .before .whole .ensures ∙ number-whole n l)) (c .before .before .put-digits .ensures)
+    let at-put-digits = c .before .before in
+    let at-whole = at-put-digits .before .before in
+    λ n l. adds-as (ap (digitsUpTo 15) (at-whole .whole .ensures ∙ number-whole n l))
+    (at-put-digits .put-digits .ensures)
 
 pub put-number-spec : {M : Type 1} → statement M
 put-number-spec =

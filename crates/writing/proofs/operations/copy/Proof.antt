@@ -20,7 +20,9 @@ shared-slice-read-out c = omega (arith, c .before .loop-test .taken, c .before .
 
 slice-write-out : tie.Need-slice-write-out Inv-loop μ-loop
 slice-write-out c =
-    omega (arith, c .before .loop-test .taken, c .before .before .before .pre .1, copied-length (c .before .before .loop .inv))
+    let at-loop = c .before .before in
+    let start = at-loop .before in
+    omega (arith, c .before .loop-test .taken, start .pre .1, copied-length (at-loop .loop .inv))
 
 add-i : tie.Need-add-i Inv-loop μ-loop
 add-i c = search needs

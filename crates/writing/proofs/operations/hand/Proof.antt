@@ -24,14 +24,30 @@ slice-aggregate-copy c = search needs
 
 copy-requires : tie.Need-copy-requires
 copy-requires c κs =
-    (omega (arith, c .before .before .before .if1 .left, c .before .before .before .before .before .put-policy .ensures (c .before .before .before .before .before .before .before .before .before .pre .thing) (c .before .before .before .before .before .before .before .before .before .pre .lies) .size), c .before .before .if2 .left)
+    let at-if2 = c .before .before in
+    let at-if1 = at-if2 .before in
+    let at-put-policy = at-if1 .before .before in
+    let start = at-put-policy .before .before .before .before in (
+      omega (
+        arith,
+        at-if1 .if1 .left,
+        at-put-policy .put-policy .ensures (start .pre .thing) (start .pre .lies)
+            .size,
+      ),
+      at-if2 .if2 .left,
+    )
 
 same-length : tie.Need-same-length
 same-length c = search needs
 
 returns-3 : tie.Need-returns-3
 returns-3 c =
-    λ x l. hand-whole _ (c .before .before .before .before .before .before .before .before .put-policy .ensures x l) refl (c .before .before .before .before .before .before .if1 .left) (c .before .before .before .before .before .if2 .left) (c .before .before .copy .ensures)
+    let at-copy = c .before .before in
+    let at-if2 = at-copy .before .before .before in
+    let at-if1 = at-if2 .before in
+    let at-put-policy = at-if1 .before .before in
+    λ x l. hand-whole _ (at-put-policy .put-policy .ensures x l) refl (at-if1 .if1 .left) (at-if2 .if2 .left)
+    (at-copy .copy .ensures)
 
 pub hand-spec : {M : Type 1} → statement M
 hand-spec =

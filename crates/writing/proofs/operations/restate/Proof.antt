@@ -22,7 +22,11 @@ slice-aggregate-hand c = search needs
 
 hand-requires : tie.Need-hand-requires
 hand-requires c κs =
-    let k = (answers-held policyRules held _ _ (c .before .before .before .before .before .read-policy .ensures) (c .before .before .enum-told .given .1)) in record { thing = k .thing; lies = knows-lies policyRules held _ _ (omega arith) k }
+    let at-enum-told = c .before .before in
+    let at-read-policy = at-enum-told .before .before .before in
+    let k = (answers-held policyRules held _ _ (at-read-policy .read-policy .ensures)
+    (at-enum-told .enum-told .given .1)) in
+    record { thing = k .thing; lies = knows-lies policyRules held _ _ (omega arith) k }
 
 enum-known-h : tie.Need-enum-known-h
 enum-known-h c = search needs
@@ -32,11 +36,18 @@ same-length c = search needs
 
 returns : tie.Need-returns
 returns c =
-    let k = (answers-held policyRules held _ _ (c .before .before .before .before .before .before .before .before .read-policy .ensures) (c .before .before .before .before .before .enum-told .given .1)) in restated (k .says) (c .before .before .hand .ensures (k .thing) (knows-lies policyRules held _ _ (omega arith) k))
+    let at-hand = c .before .before in
+    let at-enum-told = at-hand .before .before .before in
+    let at-read-policy = at-enum-told .before .before .before in
+    let k = (answers-held policyRules held _ _ (at-read-policy .read-policy .ensures)
+    (at-enum-told .enum-told .given .1)) in
+    restated (k .says) (at-hand .hand .ensures (k .thing) (knows-lies policyRules held _ _ (omega arith) k))
 
 returns-2 : tie.Need-returns-2
 returns-2 c =
-    policy-refused (answers-refused policyRules held _ _ (c .before .before .before .before .read-policy .ensures) (c .before .h .given .1))
+    let at-read-policy = c .before .before .before .before in
+    policy-refused (answers-refused policyRules held _ _ (at-read-policy .read-policy .ensures)
+    (c .before .h .given .1))
 
 pub restate-spec : {M : Type 1} → statement M
 restate-spec =

@@ -14,7 +14,8 @@ use Rattle.writing.proofs.policies.put_policy.Statement.{statement}
 use Rattle.writing.proofs.policies.put_policy.Tie as tie
 
 abbrev Inv-loop : tie.InvT-loop
-Inv-loop run out₀ n next₀ p₀ i₀ t9 out next p i = Tellings heldStatement (listed statementBytes) run 1 out₀ next₀ n i p i out next
+Inv-loop run out₀ n next₀ p₀ i₀ t9 out next p i =
+    Tellings heldStatement (listed statementBytes) run 1 out₀ next₀ n i p i out next
 
 abbrev μ-loop : tie.MeasureT-loop
 μ-loop run out₀ n next₀ p₀ i₀ t9 out next p i = n - i
@@ -39,24 +40,38 @@ put-between-requires c κs = search needs
 
 put-statement-requires : tie.Need-put-statement-requires Inv-loop μ-loop
 put-statement-requires c κs =
-    telling-lying (let y = list-lying (policy-list (c .before .before .before .before .before .before .before .before .before .before .before .before .before .before .before .pre)) in c .before .before .before .before .before .before .loop .inv (y .things) (y .count) (y .lies)) (c .before .before .before .before .before .loop-test .taken)
+    let at-loop-test = c .before .before .before .before .before in
+    let at-loop = at-loop-test .before in
+    let start = at-loop .before .before .before .before .before .before .before .before .before in
+    telling-lying (let y = list-lying (policy-list (start .pre)) in at-loop .loop .inv (y .things) (y .count)
+    (y .lies)) (at-loop-test .loop-test .taken)
 
 statement-requires : tie.Need-statement-requires Inv-loop μ-loop
 statement-requires c κs =
-    telling-lying (let y = list-lying (policy-list (c .before .before .before .before .before .before .before .before .before .before .before .before .before .before .before .before .before .before .pre)) in c .before .before .before .before .before .before .before .before .before .loop .inv (y .things) (y .count) (y .lies)) (c .before .before .before .before .before .before .before .before .loop-test .taken)
+    let at-loop-test = c .before .before .before .before .before .before .before .before in
+    let at-loop = at-loop-test .before in
+    let start = at-loop .before .before .before .before .before .before .before .before .before in
+    telling-lying (let y = list-lying (policy-list (start .pre)) in at-loop .loop .inv (y .things) (y .count)
+    (y .lies)) (at-loop-test .loop-test .taken)
 
 add-i : tie.Need-add-i Inv-loop μ-loop
 add-i c =
-    omega (arith, c .before .before .before .before .before .before .before .before .before .loop-test .taken, c .before .before .before .before .before .before .before .before .before .before .before .before .before .before .before .before .shared-slice-known2 .given 0)
+    let at-loop-test = c .before .before .before .before .before .before .before .before .before in
+    let at-shared-slice-known2 = at-loop-test .before .before .before .before .before .before .before in
+    omega (arith, at-loop-test .loop-test .taken, at-shared-slice-known2 .shared-slice-known2 .given 0)
 
 loop-less : tie.Need-loop-less Inv-loop μ-loop
 loop-less c = search needs
 
 loop-again : tie.Need-loop-again Inv-loop μ-loop
 loop-again c =
-    λ xs k l. telling-next (c .before .before .before .before .before .before .before .before .before .before .loop .inv xs k l) (c .before .before .before .before .before .before .before .before .before .loop-test .taken) _ _ _ _
-    (λ x m. listed-piece _ (c .before .before .before .before .before .before .before .before .before .before .loop .inv xs k l) x (c .statement .ensures x m .past) (c .before .before .before .before .before .before .before .put-between .ensures)
-    (c .before .before .before .put-statement .ensures x m))
+    let at-put-statement = c .before .before .before in
+    let at-put-between = at-put-statement .before .before .before .before in
+    let at-loop-test = at-put-between .before .before in
+    let at-loop = at-loop-test .before in
+    λ xs k l. telling-next (at-loop .loop .inv xs k l) (at-loop-test .loop-test .taken) _ _ _ _
+    (λ x m. listed-piece _ (at-loop .loop .inv xs k l) x (c .statement .ensures x m .past)
+    (at-put-between .put-between .ensures) (at-put-statement .put-statement .ensures x m))
 
 slice-aggregate-put-bytes-2 : tie.Need-slice-aggregate-put-bytes-2 Inv-loop μ-loop
 slice-aggregate-put-bytes-2 c = search needs
@@ -66,16 +81,26 @@ put-bytes-requires-2 c κs = search needs
 
 same-length : tie.Need-same-length Inv-loop μ-loop
 same-length c =
-    c .before .before .put-bytes2 .ensures .size ∙ (let y = list-lying (policy-list (c .before .before .before .before .before .before .before .before .before .before .before .before .before .before .before .pre)) in c .before .before .before .before .before .before .loop .inv (y .things) (y .count) (y .lies)) .adds .size ∙ c .before .before .before .before .before .before .before .before .before .put-bytes .ensures .size
+    let at-put-bytes2 = c .before .before in
+    let at-loop = at-put-bytes2 .before .before .before .before in
+    let at-put-bytes = at-loop .before .before .before in
+    let start = at-put-bytes .before .before .before .before .before .before in
+    at-put-bytes2 .put-bytes2 .ensures .size ∙
+    (let y = list-lying (policy-list (start .pre)) in at-loop .loop .inv (y .things) (y .count) (y .lies)) .adds .size
+    ∙ at-put-bytes .put-bytes .ensures .size
 
 returns : tie.Need-returns Inv-loop μ-loop
 unfolding listed
 returns c =
+    let at-put-bytes2 = c .before .before in
+    let at-loop-test = at-put-bytes2 .before .before .before in
+    let at-loop = at-loop-test .before in
+    let at-put-bytes = at-loop .before .before .before in
     λ xs l.
     let m = policy-lies xs l in
-    adds-as (policy-bytes xs)
-    (adds-then (c .before .before .before .before .before .before .before .before .before .put-bytes .ensures)
-    (adds-then (telling-end (c .before .before .before .before .before .before .loop .inv xs (lies-first m) (lies-next m)) (c .before .before .before .before .before .loop-test .left) refl) (c .before .before .put-bytes2 .ensures)))
+    adds-as (policy-bytes xs) (adds-then (at-put-bytes .put-bytes .ensures)
+    (adds-then (telling-end (at-loop .loop .inv xs (lies-first m) (lies-next m)) (at-loop-test .loop-test .left) refl)
+    (at-put-bytes2 .put-bytes2 .ensures)))
 
 pub put-policy-spec : {M : Type 1} → statement M
 put-policy-spec =

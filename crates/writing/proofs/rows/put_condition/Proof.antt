@@ -36,8 +36,13 @@ same-length c = search needs
 
 returns-2 : tie.Need-returns-2
 returns-2 c =
-    λ xs l. adds-as (condition-some xs (λ e. c .before .before .before .before .before .before .before .before .before .before .before .before .before .before .if1 .left (lies-first l ∙ e)))
-    (adds-then (c .before .before .before .before .before .before .before .before .before .before .before .put-bytes .ensures) (adds-then (c .before .before .before .before .before .before .before .put-rows .ensures xs l) (c .before .before .put-bytes2 .ensures)))
+    let at-put-bytes2 = c .before .before in
+    let at-put-rows = at-put-bytes2 .before .before .before .before .before in
+    let at-put-bytes = at-put-rows .before .before .before .before in
+    let at-if1 = at-put-bytes .before .before .before in
+    λ xs l. adds-as (condition-some xs (λ e. at-if1 .if1 .left (lies-first l ∙ e)))
+    (adds-then (at-put-bytes .put-bytes .ensures)
+    (adds-then (at-put-rows .put-rows .ensures xs l) (at-put-bytes2 .put-bytes2 .ensures)))
 
 pub put-condition-spec : {M : Type 1} → statement M
 put-condition-spec =

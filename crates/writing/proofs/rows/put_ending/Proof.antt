@@ -19,7 +19,9 @@ same-length c = search needs
 
 returns-2 : tie.Need-returns-2
 returns-2 c =
-    adds-as (ending-some _ (c .before .before .before .before .before .if1 .left)) (c .before .before .put-bytes .ensures)
+    let at-put-bytes = c .before .before in
+    let at-if1 = at-put-bytes .before .before .before in
+    adds-as (ending-some _ (at-if1 .if1 .left)) (at-put-bytes .put-bytes .ensures)
 
 pub put-ending-spec : {M : Type 1} → statement M
 put-ending-spec =

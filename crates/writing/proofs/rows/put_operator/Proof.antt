@@ -16,7 +16,9 @@ same-length c = search needs
 
 returns : tie.Need-returns
 returns c =
-    adds-as (operator-one _ (c .before .before .before .before .before .if1 .taken)) (c .before .before .put-bytes .ensures)
+    let at-put-bytes = c .before .before in
+    let at-if1 = at-put-bytes .before .before .before in
+    adds-as (operator-one _ (at-if1 .if1 .taken)) (at-put-bytes .put-bytes .ensures)
 
 slice-aggregate-put-bytes-2 : tie.Need-slice-aggregate-put-bytes-2
 slice-aggregate-put-bytes-2 c = search needs
@@ -29,7 +31,10 @@ same-length-2 c = search needs
 
 returns-2 : tie.Need-returns-2
 returns-2 c =
-    adds-as (operator-two _ (c .before .before .before .before .before .before .if1 .left) (c .before .before .before .before .before .if2 .taken)) (c .before .before .put-bytes2 .ensures)
+    let at-put-bytes2 = c .before .before in
+    let at-if2 = at-put-bytes2 .before .before .before in
+    let at-if1 = at-if2 .before in
+    adds-as (operator-two _ (at-if1 .if1 .left) (at-if2 .if2 .taken)) (at-put-bytes2 .put-bytes2 .ensures)
 
 slice-aggregate-put-bytes-3 : tie.Need-slice-aggregate-put-bytes-3
 slice-aggregate-put-bytes-3 c = search needs
@@ -42,7 +47,10 @@ same-length-3 c = search needs
 
 returns-3 : tie.Need-returns-3
 returns-3 c =
-    adds-as (operator-three _ (c .before .before .before .before .before .before .if1 .left) (c .before .before .before .before .before .if2 .left)) (c .before .before .put-bytes3 .ensures)
+    let at-put-bytes3 = c .before .before in
+    let at-if2 = at-put-bytes3 .before .before .before in
+    let at-if1 = at-if2 .before in
+    adds-as (operator-three _ (at-if1 .if1 .left) (at-if2 .if2 .left)) (at-put-bytes3 .put-bytes3 .ensures)
 
 pub put-operator-spec : {M : Type 1} → statement M
 put-operator-spec =

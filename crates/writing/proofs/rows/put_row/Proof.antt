@@ -14,7 +14,13 @@ use Rattle.writing.proofs.rows.put_row.Tie as tie
 
 add-n : tie.Need-add-n
 add-n c =
-    omega (arith, row-named (c .before .before .pre .thing) (c .before .before .pre .lies) .inside, row-named (c .before .before .pre .thing) (c .before .before .pre .lies) .bounded)
+    let start = c .before .before in
+    omega (
+      arith,
+      row-named (start .pre .thing) (start .pre .lies) .inside,
+      row-named (start .pre .thing)
+          (start .pre .lies) .bounded,
+    )
 
 mul-n : tie.Need-mul-n
 mul-n c = search needs
@@ -25,15 +31,33 @@ shared-slice-read-n c =
 
 cast-n : tie.Need-cast-n
 cast-n c =
-    omega (arith, row-named (c .before .before .before .pre .thing) (c .before .before .before .pre .lies) .ends, row-named (c .before .before .before .pre .thing) (c .before .before .before .pre .lies) .bounded)
+    let start = c .before .before .before in
+    omega (
+      arith,
+      row-named (start .pre .thing) (start .pre .lies) .ends,
+      row-named (start .pre .thing)
+          (start .pre .lies) .bounded,
+    )
 
 add-from : tie.Need-add-from
 add-from c =
-    omega (arith, row-named (c .before .before .before .pre .thing) (c .before .before .before .pre .lies) .ends, row-named (c .before .before .before .pre .thing) (c .before .before .before .pre .lies) .bounded)
+    let start = c .before .before .before in
+    omega (
+      arith,
+      row-named (start .pre .thing) (start .pre .lies) .ends,
+      row-named (start .pre .thing)
+          (start .pre .lies) .bounded,
+    )
 
 add-to : tie.Need-add-to
 add-to c =
-    omega (arith, row-named (c .before .before .before .pre .thing) (c .before .before .before .pre .lies) .ends, row-named (c .before .before .before .pre .thing) (c .before .before .before .pre .lies) .bounded)
+    let start = c .before .before .before in
+    omega (
+      arith,
+      row-named (start .pre .thing) (start .pre .lies) .ends,
+      row-named (start .pre .thing)
+          (start .pre .lies) .bounded,
+    )
 
 put-requires : tie.Need-put-requires
 put-requires c κs = search needs
@@ -49,7 +73,8 @@ part-put-text-start c = omega arith
 
 part-put-text-end : tie.Need-part-put-text-end
 part-put-text-end c =
-    row-named (c .before .before .before .before .before .before .before .before .pre .thing) (c .before .before .before .before .before .before .before .before .pre .lies) .ends
+    let start = c .before .before .before .before .before .before .before .before in
+    row-named (start .pre .thing) (start .pre .lies) .ends
 
 put-text-requires : tie.Need-put-text-requires
 put-text-requires c κs = search needs
@@ -65,11 +90,15 @@ mul-put-list c = search needs
 
 shared-slice-read-put-list : tie.Need-shared-slice-read-put-list
 shared-slice-read-put-list c =
-    row-inside (c .before .before .before .before .before .before .before .before .before .before .before .before .before .before .before .before .before .before .pre .thing) (c .before .before .before .before .before .before .before .before .before .before .before .before .before .before .before .before .before .before .pre .lies)
+    let start = c .before .before .before .before .before .before .before .before .before .before .before .before
+    .before .before .before .before .before .before in
+    row-inside (start .pre .thing) (start .pre .lies)
 
 put-list-requires : tie.Need-put-list-requires
 put-list-requires c κs =
-    record { thing = c .before .before .before .before .before .before .before .before .before .before .before .before .before .before .before .before .before .before .before .pre .thing .entries; lies = row-named (c .before .before .before .before .before .before .before .before .before .before .before .before .before .before .before .before .before .before .before .pre .thing) (c .before .before .before .before .before .before .before .before .before .before .before .before .before .before .before .before .before .before .before .pre .lies) .rest }
+    let start = c .before .before .before .before .before .before .before .before .before .before .before .before
+    .before .before .before .before .before .before .before in
+    record { thing = start .pre .thing .entries; lies = row-named (start .pre .thing) (start .pre .lies) .rest }
 
 same-length : tie.Need-same-length
 same-length c = search needs
@@ -77,13 +106,17 @@ same-length c = search needs
 returns : tie.Need-returns
 unfolding rowBytes
 returns c =
+    let at-put-list = c .before .before in
+    let at-put-bytes = at-put-list .before .before .before .before .before in
+    let at-put-text = at-put-bytes .before .before .before .before .before in
+    let at-put = at-put-text .before .before .before .before .before in
     λ x l.
     let y = row-named x l in
     adds-as (name-before (writtenText (x .key)) _)
-    (adds-then (c .before .before .before .before .before .before .before .before .before .before .before .before .before .before .before .before .before .put .ensures)
-    (adds-then (adds-as (ap writtenText (y .is)) (c .before .before .before .before .before .before .before .before .before .before .before .before .put-text .ensures))
-    (adds-then (c .before .before .before .before .before .before .before .put-bytes .ensures)
-    (adds-as (ap (λ (k : ℕ). listBytes k (x .entries)) (row-operator x l)) (c .before .before .put-list .ensures (x .entries) (y .rest))))))
+    (adds-then (at-put .put .ensures) (adds-then (adds-as (ap writtenText (y .is)) (at-put-text .put-text .ensures))
+    (adds-then (at-put-bytes .put-bytes .ensures)
+    (adds-as (ap (λ (k : ℕ). listBytes k (x .entries)) (row-operator x l))
+    (at-put-list .put-list .ensures (x .entries) (y .rest))))))
 
 pub put-row-spec : {M : Type 1} → statement M
 put-row-spec =

@@ -13,7 +13,8 @@ use Rattle.writing.proofs.rows.put_rows.Statement.{statement}
 use Rattle.writing.proofs.rows.put_rows.Tie as tie
 
 abbrev Inv-loop : tie.InvT-loop
-Inv-loop run at out₀ o n next₀ last₀ p₀ i₀ out next last p i = Tellings heldRow rowsFrom run (at + 1) out₀ next₀ n i p last out next
+Inv-loop run at out₀ o n next₀ last₀ p₀ i₀ out next last p i =
+    Tellings heldRow rowsFrom run (at + 1) out₀ next₀ n i p last out next
 
 abbrev μ-loop : tie.MeasureT-loop
 μ-loop run at out₀ o n next₀ last₀ p₀ i₀ out next last p i = n - i
@@ -36,47 +37,87 @@ loop-holds c = λ xs k l. telling-start xs k l
 
 mul-put-turning : tie.Need-mul-put-turning Inv-loop μ-loop
 mul-put-turning c =
-    let r = telling-lying (let y = list-lying (c .before .before .before .before .before .before .pre) in c .before .before .loop .inv (y .things) (y .count) (y .lies)) (c .before .loop-test .taken) in omega (arith, row-inside (r .thing) (r .lies), r .lies .bounded)
+    let at-loop = c .before .before in
+    let start = at-loop .before .before .before .before in
+    let r = telling-lying (let y = list-lying (start .pre) in at-loop .loop .inv (y .things) (y .count) (y .lies))
+    (c .before .loop-test .taken) in
+    omega (arith, row-inside (r .thing) (r .lies), r .lies .bounded)
 
 shared-slice-read-put-turning : tie.Need-shared-slice-read-put-turning Inv-loop μ-loop
 shared-slice-read-put-turning c =
-    let r = telling-lying (let y = list-lying (c .before .before .before .before .before .before .before .pre) in c .before .before .before .loop .inv (y .things) (y .count) (y .lies)) (c .before .before .loop-test .taken) in row-inside (r .thing) (r .lies)
+    let at-loop-test = c .before .before in
+    let at-loop = at-loop-test .before in
+    let start = at-loop .before .before .before .before in
+    let r = telling-lying (let y = list-lying (start .pre) in at-loop .loop .inv (y .things) (y .count) (y .lies))
+    (at-loop-test .loop-test .taken) in
+    row-inside (r .thing) (r .lies)
 
 put-turning-requires : tie.Need-put-turning-requires Inv-loop μ-loop
 put-turning-requires c κs = search needs
 
 put-row-requires : tie.Need-put-row-requires Inv-loop μ-loop
 put-row-requires c κs =
-    telling-lying (let y = list-lying (c .before .before .before .before .before .before .before .before .before .before .before .pre) in c .before .before .before .before .before .before .before .loop .inv (y .things) (y .count) (y .lies)) (c .before .before .before .before .before .before .loop-test .taken)
+    let at-loop-test = c .before .before .before .before .before .before in
+    let at-loop = at-loop-test .before in
+    let start = at-loop .before .before .before .before in
+    telling-lying (let y = list-lying (start .pre) in at-loop .loop .inv (y .things) (y .count) (y .lies))
+    (at-loop-test .loop-test .taken)
 
 mul-last : tie.Need-mul-last Inv-loop μ-loop
 mul-last c =
-    let r = telling-lying (let y = list-lying (c .before .before .before .before .before .before .before .before .before .before .before .before .before .before .pre) in c .before .before .before .before .before .before .before .before .before .before .loop .inv (y .things) (y .count) (y .lies)) (c .before .before .before .before .before .before .before .before .before .loop-test .taken) in omega (arith, row-inside (r .thing) (r .lies), r .lies .bounded)
+    let at-loop-test = c .before .before .before .before .before .before .before .before .before in
+    let at-loop = at-loop-test .before in
+    let start = at-loop .before .before .before .before in
+    let r = telling-lying (let y = list-lying (start .pre) in at-loop .loop .inv (y .things) (y .count) (y .lies))
+    (at-loop-test .loop-test .taken) in
+    omega (arith, row-inside (r .thing) (r .lies), r .lies .bounded)
 
 shared-slice-read-last : tie.Need-shared-slice-read-last Inv-loop μ-loop
 shared-slice-read-last c =
-    let r = telling-lying (let y = list-lying (c .before .before .before .before .before .before .before .before .before .before .before .before .before .before .before .pre) in c .before .before .before .before .before .before .before .before .before .before .before .loop .inv (y .things) (y .count) (y .lies)) (c .before .before .before .before .before .before .before .before .before .before .loop-test .taken) in row-inside (r .thing) (r .lies)
+    let at-loop-test = c .before .before .before .before .before .before .before .before .before .before in
+    let at-loop = at-loop-test .before in
+    let start = at-loop .before .before .before .before in
+    let r = telling-lying (let y = list-lying (start .pre) in at-loop .loop .inv (y .things) (y .count) (y .lies))
+    (at-loop-test .loop-test .taken) in
+    row-inside (r .thing) (r .lies)
 
 row-requires : tie.Need-row-requires Inv-loop μ-loop
 row-requires c κs =
-    telling-lying (let y = list-lying (c .before .before .before .before .before .before .before .before .before .before .before .before .before .before .before .pre) in c .before .before .before .before .before .before .before .before .before .before .before .loop .inv (y .things) (y .count) (y .lies)) (c .before .before .before .before .before .before .before .before .before .before .loop-test .taken)
+    let at-loop-test = c .before .before .before .before .before .before .before .before .before .before in
+    let at-loop = at-loop-test .before in
+    let start = at-loop .before .before .before .before in
+    telling-lying (let y = list-lying (start .pre) in at-loop .loop .inv (y .things) (y .count) (y .lies))
+    (at-loop-test .loop-test .taken)
 
 add-i : tie.Need-add-i Inv-loop μ-loop
 add-i c =
-    omega (arith, c .before .before .before .before .before .before .before .before .before .before .before .loop-test .taken, c .before .before .before .before .before .before .before .before .before .before .before .before .before .shared-slice-known2 .given (c .before .before .before .before .before .before .before .before .before .before .before .before .before .before .before .before .args .at))
+    let at-loop-test = c .before .before .before .before .before .before .before .before .before .before .before in
+    let at-shared-slice-known2 = at-loop-test .before .before in
+    let start = at-shared-slice-known2 .before .before .before in
+    omega (
+      arith,
+      at-loop-test .loop-test .taken,
+      at-shared-slice-known2 .shared-slice-known2 .given
+          (start .args .at),
+    )
 
 loop-less : tie.Need-loop-less Inv-loop μ-loop
 loop-less c = search needs
 
 loop-again : tie.Need-loop-again Inv-loop μ-loop
 loop-again c =
-    λ xs k l. telling-next (c .before .before .before .before .before .before .before .before .before .before .before .before .loop .inv xs k l) (c .before .before .before .before .before .before .before .before .before .before .before .loop-test .taken) _ _ _ _
-    (λ x m. row-piece (c .before .before .before .before .before .before .before .before .before .before .before .before .loop .inv xs k l) x (c .row .ensures x m .past) (row-operator x m) (c .before .before .before .before .before .before .before .before .put-turning .ensures)
-    (c .before .before .before .before .put-row .ensures x m))
+    let at-put-row = c .before .before .before .before in
+    let at-put-turning = at-put-row .before .before .before .before in
+    let at-loop-test = at-put-turning .before .before .before in
+    let at-loop = at-loop-test .before in
+    λ xs k l. telling-next (at-loop .loop .inv xs k l) (at-loop-test .loop-test .taken) _ _ _ _
+    (λ x m. row-piece (at-loop .loop .inv xs k l) x (c .row .ensures x m .past) (row-operator x m)
+    (at-put-turning .put-turning .ensures) (at-put-row .put-row .ensures x m))
 
 same-length : tie.Need-same-length Inv-loop μ-loop
 same-length c =
-    (let y = list-lying (c .before .before .before .before .before .pre) in c .before .loop .inv (y .things) (y .count) (y .lies)) .adds .size
+    let start = c .before .before .before .before .before in
+    (let y = list-lying (start .pre) in c .before .loop .inv (y .things) (y .count) (y .lies)) .adds .size
 
 returns : tie.Need-returns Inv-loop μ-loop
 unfolding rowsFrom

@@ -35,9 +35,15 @@ same-length-2 c = search needs
 
 returns-2 : tie.Need-returns-2
 returns-2 c =
-    adds-as (turning-other _ _ (c .before .before .before .before .before .before .before .before .before .before .before .before .before .before .before .before .before .if1 .left))
-    (adds-then (c .before .before .before .before .before .before .before .before .before .before .before .before .before .before .before .put-ending .ensures)
-    (adds-then (c .before .before .before .before .before .before .before .before .before .before .before .put2 .ensures) (adds-then (c .before .before .before .before .before .before .before .put-operator .ensures) (c .before .before .put-bytes .ensures))))
+    let at-put-bytes = c .before .before in
+    let at-put-operator = at-put-bytes .before .before .before .before .before in
+    let at-put2 = at-put-operator .before .before .before .before in
+    let at-put-ending = at-put2 .before .before .before .before in
+    let at-if1 = at-put-ending .before .before in
+    adds-as (turning-other _ _ (at-if1 .if1 .left))
+    (adds-then (at-put-ending .put-ending .ensures)
+    (adds-then (at-put2 .put2 .ensures) (adds-then (at-put-operator .put-operator .ensures)
+    (at-put-bytes .put-bytes .ensures))))
 
 pub put-turning-spec : {M : Type 1} → statement M
 put-turning-spec =

@@ -29,7 +29,10 @@ loop-less c = search needs
 
 loop-again : tie.Need-loop-again Inv-loop μ-loop
 loop-again c =
-    each-next itself (c .before .before .before .before .before .before .loop .inv) (c .before .before .before .before .before .loop-test .taken) (c .before .before .put .ensures)
+    let at-put = c .before .before in
+    let at-loop-test = at-put .before .before .before in
+    let at-loop = at-loop-test .before in
+    each-next itself (at-loop .loop .inv) (at-loop-test .loop-test .taken) (at-put .put .ensures)
 
 same-length : tie.Need-same-length Inv-loop μ-loop
 same-length c = c .before .loop .inv .adds .size

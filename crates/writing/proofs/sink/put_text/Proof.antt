@@ -33,7 +33,10 @@ loop-less c = search needs
 
 loop-again : tie.Need-loop-again Inv-loop μ-loop
 loop-again c =
-    each-next written (c .before .before .before .before .before .before .loop .inv) (c .before .before .before .before .before .loop-test .taken) (c .before .before .put-char .ensures)
+    let at-put-char = c .before .before in
+    let at-loop-test = at-put-char .before .before .before in
+    let at-loop = at-loop-test .before in
+    each-next written (at-loop .loop .inv) (at-loop-test .loop-test .taken) (at-put-char .put-char .ensures)
 
 same-length : tie.Need-same-length Inv-loop μ-loop
 same-length c = c .before .loop .inv .adds .size

@@ -41,7 +41,8 @@ returns : (t : ℕ) → lts.Need-returns (calls t) (digits-at t) digits.Post
 returns t c =
     let at-digit = c .before .before .before in
     let at-if1 = at-digit .before .before in
-    adds-as (ap itself (at-digit .digit .ensures) ∙ digits-last _ _ (at-if1 .if1 .taken)) (c .before .before .put .ensures)
+    adds-as (ap itself (at-digit .digit .ensures) ∙ digits-last _ _ (at-if1 .if1 .taken))
+    (c .before .before .put .ensures)
 
 digit-requires-2 : (t : ℕ) → lts.Need-digit-requires-2 (calls t) (digits-at t) digits.Post
 digit-requires-2 t c κs = search needs

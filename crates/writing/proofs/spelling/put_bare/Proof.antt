@@ -38,7 +38,12 @@ loop-less c = search needs
 
 loop-again : tie.Need-loop-again Inv-loop μ-loop
 loop-again c =
-    each-next bareChar (c .before .before .before .before .before .before .before .loop .inv) (c .before .before .before .before .before .before .loop-test .taken) (adds-as (ap written (c .before .before .before .bare .ensures)) (c .before .before .put-char .ensures))
+    let at-put-char = c .before .before in
+    let at-bare = at-put-char .before in
+    let at-loop-test = at-bare .before .before .before in
+    let at-loop = at-loop-test .before in
+    each-next bareChar (at-loop .loop .inv) (at-loop-test .loop-test .taken)
+    (adds-as (ap written (at-bare .bare .ensures)) (at-put-char .put-char .ensures))
 
 same-length : tie.Need-same-length Inv-loop μ-loop
 same-length c = c .before .loop .inv .adds .size

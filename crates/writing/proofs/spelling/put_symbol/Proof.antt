@@ -22,8 +22,13 @@ same-length c = search needs
 
 returns : tie.Need-returns
 returns c =
-    adds-as (ap written (c .before .before .before .bare .ensures) ∙ spelling-bare _ _ (sym (c .before .before .before .before .before .before .is-escaped .ensures) ∙ not-true (c .before .before .before .before .before .before .is-escaped .result) (c .before .before .before .before .before .if1 .taken)))
-    (c .before .before .put-char .ensures)
+    let at-put-char = c .before .before in
+    let at-bare = at-put-char .before in
+    let at-if1 = at-bare .before .before in
+    let at-is-escaped = at-if1 .before in
+    adds-as (ap written (at-bare .bare .ensures) ∙ spelling-bare _ _
+    (sym (at-is-escaped .is-escaped .ensures) ∙ not-true (at-is-escaped .is-escaped .result) (at-if1 .if1 .taken)))
+    (at-put-char .put-char .ensures)
 
 slice-aggregate-put-bytes : tie.Need-slice-aggregate-put-bytes
 slice-aggregate-put-bytes c = search needs
@@ -42,8 +47,15 @@ same-length-2 c = search needs
 
 returns-2 : tie.Need-returns-2
 returns-2 c =
-    adds-as (spelling-escaped _ _ (sym (c .before .before .before .before .before .before .before .before .before .before .before .before .before .before .is-escaped .ensures) ∙ not-false (c .before .before .before .before .before .before .before .before .before .before .before .before .before .before .is-escaped .result) (c .before .before .before .before .before .before .before .before .before .before .before .before .before .if1 .left)))
-    (adds-then (c .before .before .before .before .before .before .before .before .before .before .put-bytes .ensures) (adds-then (c .before .before .before .before .before .before .put-char2 .ensures) (c .before .before .put .ensures)))
+    let at-put = c .before .before in
+    let at-put-char2 = at-put .before .before .before .before in
+    let at-put-bytes = at-put-char2 .before .before .before .before in
+    let at-if1 = at-put-bytes .before .before .before in
+    let at-is-escaped = at-if1 .before in
+    adds-as (spelling-escaped _ _ (sym (at-is-escaped .is-escaped .ensures) ∙ not-false
+    (at-is-escaped .is-escaped .result) (at-if1 .if1 .left)))
+    (adds-then (at-put-bytes .put-bytes .ensures)
+    (adds-then (at-put-char2 .put-char2 .ensures) (at-put .put .ensures)))
 
 pub put-symbol-spec : {M : Type 1} → statement M
 put-symbol-spec =

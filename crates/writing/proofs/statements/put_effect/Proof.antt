@@ -16,7 +16,9 @@ same-length c = search needs
 
 returns : tie.Need-returns
 returns c =
-    adds-as (effect-allow _ (c .before .before .before .before .before .if1 .taken)) (c .before .before .put-bytes .ensures)
+    let at-put-bytes = c .before .before in
+    let at-if1 = at-put-bytes .before .before .before in
+    adds-as (effect-allow _ (at-if1 .if1 .taken)) (at-put-bytes .put-bytes .ensures)
 
 slice-aggregate-put-bytes-2 : tie.Need-slice-aggregate-put-bytes-2
 slice-aggregate-put-bytes-2 c = search needs
@@ -29,7 +31,9 @@ same-length-2 c = search needs
 
 returns-2 : tie.Need-returns-2
 returns-2 c =
-    adds-as (effect-deny _ (c .before .before .before .before .before .if1 .left)) (c .before .before .put-bytes2 .ensures)
+    let at-put-bytes2 = c .before .before in
+    let at-if1 = at-put-bytes2 .before .before .before in
+    adds-as (effect-deny _ (at-if1 .if1 .left)) (at-put-bytes2 .put-bytes2 .ensures)
 
 pub put-effect-spec : {M : Type 1} → statement M
 put-effect-spec =

@@ -21,18 +21,36 @@ shared-slice-read-n c =
 
 cast-n : tie.Need-cast-n
 cast-n c =
-    omega (arith, labelled (c .before .before .before .pre .thing) (c .before .before .before .pre .lies) .ends, labelled (c .before .before .before .pre .thing) (c .before .before .before .pre .lies) .bounded)
+    let start = c .before .before .before in
+    omega (
+      arith,
+      labelled (start .pre .thing) (start .pre .lies) .ends,
+      labelled (start .pre .thing)
+          (start .pre .lies) .bounded,
+    )
 
 returns : tie.Need-returns
 returns c = λ x l. sid-none (x .label) (sym (labelled x l .count) ∙ c .if1 .taken)
 
 add-from : tie.Need-add-from
 add-from c =
-    omega (arith, labelled (c .before .before .before .before .pre .thing) (c .before .before .before .before .pre .lies) .ends, labelled (c .before .before .before .before .pre .thing) (c .before .before .before .before .pre .lies) .bounded)
+    let start = c .before .before .before .before in
+    omega (
+      arith,
+      labelled (start .pre .thing) (start .pre .lies) .ends,
+      labelled (start .pre .thing)
+          (start .pre .lies) .bounded,
+    )
 
 add-to : tie.Need-add-to
 add-to c =
-    omega (arith, labelled (c .before .before .before .before .pre .thing) (c .before .before .before .before .pre .lies) .ends, labelled (c .before .before .before .before .pre .thing) (c .before .before .before .before .pre .lies) .bounded)
+    let start = c .before .before .before .before in
+    omega (
+      arith,
+      labelled (start .pre .thing) (start .pre .lies) .ends,
+      labelled (start .pre .thing)
+          (start .pre .lies) .bounded,
+    )
 
 slice-aggregate-put-bytes : tie.Need-slice-aggregate-put-bytes
 slice-aggregate-put-bytes c = search needs
@@ -51,7 +69,8 @@ part-put-text-start c = omega arith
 
 part-put-text-end : tie.Need-part-put-text-end
 part-put-text-end c =
-    labelled (c .before .before .before .before .before .before .before .before .before .before .pre .thing) (c .before .before .before .before .before .before .before .before .before .before .pre .lies) .ends
+    let start = c .before .before .before .before .before .before .before .before .before .before in
+    labelled (start .pre .thing) (start .pre .lies) .ends
 
 put-text-requires : tie.Need-put-text-requires
 put-text-requires c κs = search needs
@@ -67,9 +86,14 @@ same-length c = search needs
 
 returns-2 : tie.Need-returns-2
 returns-2 c =
-    λ x l. adds-as (sid-some (x .label) (λ e. c .before .before .before .before .before .before .before .before .before .before .before .before .before .before .before .if1 .left (labelled x l .count ∙ e)))
-    (adds-then (c .before .before .before .before .before .before .before .before .before .before .before .before .put-bytes .ensures)
-    (adds-then (adds-as (ap writtenText (labelled x l .is)) (c .before .before .before .before .before .before .before .put-text .ensures)) (c .before .before .put-bytes2 .ensures)))
+    let at-put-bytes2 = c .before .before in
+    let at-put-text = at-put-bytes2 .before .before .before .before .before in
+    let at-put-bytes = at-put-text .before .before .before .before .before in
+    let at-if1 = at-put-bytes .before .before .before in
+    λ x l. adds-as (sid-some (x .label) (λ e. at-if1 .if1 .left (labelled x l .count ∙ e)))
+    (adds-then (at-put-bytes .put-bytes .ensures)
+    (adds-then (adds-as (ap writtenText (labelled x l .is)) (at-put-text .put-text .ensures))
+    (at-put-bytes2 .put-bytes2 .ensures)))
 
 pub put-sid-spec : {M : Type 1} → statement M
 put-sid-spec =
