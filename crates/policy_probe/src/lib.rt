@@ -1,8 +1,12 @@
-// The readers of policies and records as numbers, for tests from Rust. No part of the product.
+// The readers of policies and records, and Decide, as numbers, for tests from Rust. No part of the product.
 ghost use mathlib.Core.Path.{_≡_};
 ghost use Rattle.policy.specs.Held.{held, heldRequest};
 ghost use Rattle.policy.specs.Reading.{policyRules, recordRules};
-ghost use Rattle.policy_probe.specs.Numbers.{ofRead, Tells};
+ghost use Rattle.decision.specs.Operations.{toldAnswer};
+ghost use Rattle.policy_probe.specs.Numbers.{ofRead, Tells, ofDecision, ofDecided, Judges};
+use decision::deciding::Decision;
+use decision::operations;
+use decision::operations::Answer;
 use policy::reading;
 use policy::reading::Read;
 use policy::refusals;
@@ -13,6 +17,16 @@ pub struct Told {
     pub refusal: u64,
     pub place: usize,
     pub count: usize,
+}
+
+// A refusal's number and its place; or 0, 0, and a decision: 1 allowed, 2 explicitly denied, 3 implicitly denied, with the
+// statement that decides, counted from 1, and 0 where none does.
+#[repr(C)]
+pub struct Judged {
+    pub refusal: u64,
+    pub place: usize,
+    pub decision: u64,
+    pub statement: usize,
 }
 
 const RUN: usize = 16384;
@@ -39,6 +53,49 @@ fn numbers(r: Read) -> Told
                 refusal: wide(n),
                 place: p,
                 count: 0,
+            }
+        }
+    }
+}
+
+fn of_decision(d: Decision) -> Judged
+    ensures { λ t. ⌜ t ≡ ofDecision d ⌝ }
+{
+    match d {
+        Decision::Allowed(n) => Judged {
+            refusal: 0,
+            place: 0,
+            decision: 1,
+            statement: n,
+        },
+        Decision::Denied(n) => Judged {
+            refusal: 0,
+            place: 0,
+            decision: 2,
+            statement: n,
+        },
+        Decision::Implicit => Judged {
+            refusal: 0,
+            place: 0,
+            decision: 3,
+            statement: 0,
+        },
+    }
+}
+
+fn of_decided(a: Answer) -> Judged
+    ensures { λ t. ⌜ t ≡ ofDecided (toldAnswer a) ⌝ }
+{
+    match a {
+        Answer::Decided(d) => of_decision(d),
+        Answer::Refused(f) => {
+            let n = refusals::number(f);
+            let p = refusals::place(f);
+            Judged {
+                refusal: wide(n),
+                place: p,
+                decision: 0,
+                statement: 0,
             }
         }
     }
@@ -72,4 +129,11 @@ pub extern "C" fn policy_probe_record(s: &[u8], run: &mut [u32]) -> Told
     }
     let r = reading::read_record(s, run);
     numbers(r)
+}
+
+#[no_mangle]
+pub extern "C" fn policy_probe_decide(policy: &[u8], asked: &[u8]) -> Judged
+    ensures { λ t. ⌜ Judges (now (policy .entry)) (now (asked .entry)) t ⌝ }
+{
+    of_decided(operations::decide(policy, asked))
 }
