@@ -1,5 +1,8 @@
-//! Links the proved reader of policies and records.
+//! Links the proved readers of policies and records, and Decide.
 
 fn main() {
-    archive::link("policy_probe", &["text", "policy", "policy_probe"]);
+    archive::link(
+        "policy_probe",
+        &["text", "policy", "decision", "policy_probe"],
+    );
 }

@@ -16,10 +16,26 @@ pub struct Told {
     pub count: usize,
 }
 
+/// `Judged` of crates/policy_probe, likewise.
+#[repr(C)]
+pub struct Judged {
+    pub refusal: u64,
+    pub place: usize,
+    pub decision: u64,
+    pub statement: usize,
+}
+
 extern "C" {
     fn policy_probe_policy(bytes: *const u8, length: usize, run: *mut u32, room: usize) -> Told;
 
     fn policy_probe_record(bytes: *const u8, length: usize, run: *mut u32, room: usize) -> Told;
+
+    fn policy_probe_decide(
+        policy: *const u8,
+        policy_length: usize,
+        record: *const u8,
+        record_length: usize,
+    ) -> Judged;
 }
 
 pub fn policy(text: &[u8], run: &mut [u32]) -> Told {
@@ -32,4 +48,9 @@ pub fn policy(text: &[u8], run: &mut [u32]) -> Told {
 pub fn record(text: &[u8], run: &mut [u32]) -> Told {
     // SAFETY: as in `policy`.
     unsafe { policy_probe_record(text.as_ptr(), text.len(), run.as_mut_ptr(), run.len()) }
+}
+
+pub fn decide(policy: &[u8], record: &[u8]) -> Judged {
+    // SAFETY: as in `policy`; both are only read.
+    unsafe { policy_probe_decide(policy.as_ptr(), policy.len(), record.as_ptr(), record.len()) }
 }
