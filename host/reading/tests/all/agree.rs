@@ -1,24 +1,42 @@
-//! Both readers on one text.
+//! Both implementations on one text, or on a policy and a record.
 
 use second::layouts::{self, Policy, Record};
-use second::Refusal;
+use second::{Decision, Refusal};
 use std::fmt::Debug;
 
 /// What both readers say of a policy text.
 pub fn policy(text: &[u8]) -> Result<Policy, Refusal> {
-    same(text, reading::read_policy(text), layouts::read_policy(text))
+    let answers = [reading::read_policy(text), layouts::read_policy(text)];
+    same(&[text], answers)
 }
 
 /// What both readers say of a record.
 pub fn record(text: &[u8]) -> Result<Record, Refusal> {
-    same(text, reading::read_record(text), layouts::read_record(text))
+    let answers = [reading::read_record(text), layouts::read_record(text)];
+    same(&[text], answers)
 }
 
-fn same<T: PartialEq + Debug>(text: &[u8], proved: T, second: T) -> T {
+/// What both decide.
+pub fn decide(policy: &[u8], record: &[u8]) -> Result<Decision, Refusal> {
+    let answers = [
+        reading::decide(policy, record),
+        second::decide(policy, record),
+    ];
+    same(&[policy, record], answers)
+}
+
+fn same<T: PartialEq + Debug>(texts: &[&[u8]], [proved, second]: [T; 2]) -> T {
     assert!(
         proved == second,
-        "the proved reader says {proved:?}, the second {second:?}, of \"{}\"",
-        text.escape_ascii()
+        "the proved one says {proved:?}, the second {second:?}, of {}",
+        shown(texts)
     );
     proved
+}
+
+pub fn shown(texts: &[&[u8]]) -> String {
+    let texts = texts
+        .iter()
+        .map(|text| format!("\"{}\"", text.escape_ascii()));
+    texts.collect::<Vec<_>>().join(" and ")
 }

@@ -1,8 +1,10 @@
-//! The proved readers of policies and records and the second implementation's:
-//! both against tables written from the order by hand, and against each other.
+//! The proved readers of policies and records, Decide, and the second
+//! implementation's: both against tables written from the order by hand, and
+//! against each other.
 
 mod agree;
 mod corpus;
+mod decision;
 mod edited;
 mod generated;
 mod policy;

@@ -62,6 +62,16 @@ pub fn quoted(raw: &str) -> String {
     format!("\"{raw}\"")
 }
 
+/// Characters as they stand between the quotes of a JSON string.
+pub fn spelled(text: &str) -> String {
+    let character = |character: char| match character {
+        '"' | '\\' => format!("\\{character}"),
+        '\0'..='\u{1f}' => format!("\\u{:04x}", character as u32),
+        _ => character.to_string(),
+    };
+    text.chars().map(character).collect()
+}
+
 /// A list of so many of the same.
 pub fn list_of(item: &str, count: usize) -> String {
     format!("[{}]", vec![item; count].join(","))
