@@ -1,8 +1,10 @@
 //! The decision, clause by clause.
 
 mod entries;
+mod globs;
 mod limits;
 mod operators;
+mod patterns;
 mod rows;
 mod statements;
 
