@@ -22,23 +22,23 @@ const OTHERS: &[u8] = b"\"\\[]{},:0*?$:kK \0\xC3";
 #[test]
 fn edited_policies_agree() {
     let mut tally = Tally::default();
-    for text in POLICIES {
-        let text = text.as_bytes();
-        let changed = every_edit(text).into_iter().chain(every_byte(text));
-        changed.for_each(|text| tally.count(agree::policy(&text)));
-    }
+    let changed = POLICIES.into_iter().flat_map(every_change);
+    changed.for_each(|text| tally.count(agree::policy(&text)));
     tally.at_least("policies", &[(0, 500), (3, 2_000), (4, 2_000)]);
 }
 
 #[test]
 fn edited_records_agree() {
     let mut tally = Tally::default();
-    for text in RECORDS {
-        let text = text.as_bytes();
-        let changed = every_edit(text).into_iter().chain(every_byte(text));
-        changed.for_each(|text| tally.count(agree::record(&text)));
-    }
+    let changed = RECORDS.into_iter().flat_map(every_change);
+    changed.for_each(|text| tally.count(agree::record(&text)));
     tally.at_least("records", &[(0, 500), (8, 2_000), (9, 1_000)]);
+}
+
+/// A text under every single edit of its parts and every other byte.
+pub fn every_change(text: &str) -> impl Iterator<Item = Vec<u8>> + '_ {
+    let text = text.as_bytes();
+    every_edit(text).into_iter().chain(every_byte(text))
 }
 
 /// A text with each byte replaced by each of the others.

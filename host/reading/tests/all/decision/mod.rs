@@ -1,6 +1,9 @@
-//! The decision, clause by clause.
+//! The decision, clause by clause, and on generated cases.
 
+mod corpus;
+mod edited;
 mod entries;
+mod generated;
 mod globs;
 mod limits;
 mod operators;
