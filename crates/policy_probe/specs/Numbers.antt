@@ -1,9 +1,11 @@
--- The numbers that stand for the answers of `policy` and `decision`.
+-- The numbers that stand for the answers of `policy`, `decision` and `writing`.
 --   ofRead r                    of an answer of reading
 --   Tells k h s before after t  t are those of what reading by the rules k answers of s, and the run holds as h holds;
 --                               a run of another length than it must have is refused by 1 and stays
 --   ofDecided x                 of what Decide comes to
 --   Judges p r t                t are those of what Decide comes to on the policy text p and the record r
+--   ofWritten x                 of what Restate comes to
+--   Writes p out after t        t are those of what Restate comes to on p, and it takes the output out to after
 use mathlib.Core.Path.{_≡_}
 use mathlib.Core.List.{List}
 use Prim.Native.Nat.{ℕ}
@@ -16,6 +18,7 @@ use Rattle.policy.specs.declared.reading.Read.the-variants as R
 use Rattle.decision.specs.Operations.{Decides}
 use Rattle.decision.specs.declared.deciding.Decision.{Decision}
 use Rattle.decision.specs.declared.deciding.Decision.the-variants.{Denied, Allowed, Implicit}
+use Rattle.writing.specs.Operations.{Restates}
 use Rattle.policy_probe.specs.declared.Told.{Told}
 use Rattle.policy_probe.specs.declared.Judged.{Judged}
 
@@ -48,3 +51,12 @@ ofDecided (known d) = ofDecision d
 
 pub data Judges (policy asked : List ℕ) : Judged → Type 0 where
   judges : {x : Outcome Decision} → Decides policy asked x → Judges policy asked (ofDecided x)
+
+-- ---- Restate
+
+abbrev pub ofWritten : Outcome ℕ → Told
+ofWritten (refused f) = told (numberOf f) (placeOf f) 0
+ofWritten (known n) = told 0 0 n
+
+pub data Writes (policy out after : List ℕ) : Told → Type 0 where
+  writes : {x : Outcome ℕ} → Restates policy out x after → Writes policy out after (ofWritten x)

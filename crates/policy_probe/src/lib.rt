@@ -1,17 +1,17 @@
-// The readers of policies and records, and Decide, as numbers, for tests from Rust. No part of the product.
+// The readers of policies and records, Decide and Restate as numbers, for tests from Rust. No part of the product.
 ghost use mathlib.Core.Path.{_≡_};
 ghost use Rattle.policy.specs.Held.{held, heldRequest};
 ghost use Rattle.policy.specs.Reading.{policyRules, recordRules};
-ghost use Rattle.decision.specs.Operations.{toldAnswer};
-ghost use Rattle.policy_probe.specs.Numbers.{ofRead, Tells, ofDecision, ofDecided, Judges};
+ghost use Rattle.decision.specs.Operations as deciding;
+ghost use Rattle.writing.specs.Operations as writing;
+ghost use Rattle.policy_probe.specs.Numbers.{ofRead, Tells, ofDecision, ofDecided, Judges, ofWritten, Writes};
 use decision::deciding::Decision;
-use decision::operations;
-use decision::operations::Answer;
 use policy::reading;
 use policy::reading::Read;
 use policy::refusals;
 
-// A refusal's number and its place; or 0, 0, and how many numbers of the run hold what was read.
+// A refusal's number and its place; or 0, 0, and how many numbers of the run hold what was read, or how many bytes of the
+// output were written.
 #[repr(C)]
 pub struct Told {
     pub refusal: u64,
@@ -83,12 +83,12 @@ fn of_decision(d: Decision) -> Judged
     }
 }
 
-fn of_decided(a: Answer) -> Judged
-    ensures { λ t. ⌜ t ≡ ofDecided (toldAnswer a) ⌝ }
+fn of_decided(a: decision::operations::Answer) -> Judged
+    ensures { λ t. ⌜ t ≡ ofDecided (deciding.toldAnswer a) ⌝ }
 {
     match a {
-        Answer::Decided(d) => of_decision(d),
-        Answer::Refused(f) => {
+        decision::operations::Answer::Decided(d) => of_decision(d),
+        decision::operations::Answer::Refused(f) => {
             let n = refusals::number(f);
             let p = refusals::place(f);
             Judged {
@@ -96,6 +96,27 @@ fn of_decided(a: Answer) -> Judged
                 place: p,
                 decision: 0,
                 statement: 0,
+            }
+        }
+    }
+}
+
+fn of_written(a: writing::operations::Answer) -> Told
+    ensures { λ t. ⌜ t ≡ ofWritten (writing.toldAnswer a) ⌝ }
+{
+    match a {
+        writing::operations::Answer::Written(n) => Told {
+            refusal: 0,
+            place: 0,
+            count: n,
+        },
+        writing::operations::Answer::Refused(f) => {
+            let n = refusals::number(f);
+            let p = refusals::place(f);
+            Told {
+                refusal: wide(n),
+                place: p,
+                count: 0,
             }
         }
     }
@@ -135,5 +156,12 @@ pub extern "C" fn policy_probe_record(s: &[u8], run: &mut [u32]) -> Told
 pub extern "C" fn policy_probe_decide(policy: &[u8], asked: &[u8]) -> Judged
     ensures { λ t. ⌜ Judges (now (policy .entry)) (now (asked .entry)) t ⌝ }
 {
-    of_decided(operations::decide(policy, asked))
+    of_decided(decision::operations::decide(policy, asked))
+}
+
+#[no_mangle]
+pub extern "C" fn policy_probe_restate(policy: &[u8], out: &mut [u8]) -> Told
+    ensures { λ t. ⌜ Writes (now (policy .entry)) (now (out .entry)) (now (out .exit)) t ⌝ }
+{
+    of_written(writing::operations::restate(policy, out))
 }
