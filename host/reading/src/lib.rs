@@ -1,4 +1,4 @@
-//! The proved readers of policies and records, and Decide, behind safe
+//! The proved readers of policies and records, Decide and Restate, behind safe
 //! functions, with the types of the second implementation, so that answers are
 //! compared by `==`.
 //!
@@ -47,6 +47,11 @@ pub fn decide(policy: &[u8], record: &[u8]) -> Result<Decision, Refusal> {
     linked::decide(policy, record).decision()
 }
 
+/// What the proved Restate answers; it writes to the output's first bytes.
+pub fn restate(policy: &[u8], output: &mut [u8]) -> Result<usize, Refusal> {
+    linked::restate(policy, output).count()
+}
+
 fn read<T>(
     text: &[u8],
     hold: fn(&[u8], &mut [u32]) -> Result<usize, Refusal>,
@@ -59,7 +64,7 @@ fn read<T>(
 }
 
 impl Told {
-    /// A refusal holds nothing, and what is held has no place.
+    /// A refusal counts nothing, and what is counted has no place.
     fn count(&self) -> Result<usize, Refusal> {
         let Told {
             refusal,
@@ -67,10 +72,10 @@ impl Told {
             count,
         } = *self;
         if refusal == 0 {
-            assert_eq!(place, 0, "something held has a place");
+            assert_eq!(place, 0, "something counted has a place");
             return Ok(count);
         }
-        assert_eq!(count, 0, "a refusal holds something");
+        assert_eq!(count, 0, "a refusal counts something");
         Err(refused(refusal, place))
     }
 }

@@ -36,6 +36,13 @@ extern "C" {
         record: *const u8,
         record_length: usize,
     ) -> Judged;
+
+    fn policy_probe_restate(
+        policy: *const u8,
+        policy_length: usize,
+        output: *mut u8,
+        room: usize,
+    ) -> Told;
 }
 
 pub fn policy(text: &[u8], run: &mut [u32]) -> Told {
@@ -53,4 +60,16 @@ pub fn record(text: &[u8], run: &mut [u32]) -> Told {
 pub fn decide(policy: &[u8], record: &[u8]) -> Judged {
     // SAFETY: as in `policy`; both are only read.
     unsafe { policy_probe_decide(policy.as_ptr(), policy.len(), record.as_ptr(), record.len()) }
+}
+
+pub fn restate(policy: &[u8], output: &mut [u8]) -> Told {
+    // SAFETY: as in `policy`, with an output of bytes.
+    unsafe {
+        policy_probe_restate(
+            policy.as_ptr(),
+            policy.len(),
+            output.as_mut_ptr(),
+            output.len(),
+        )
+    }
 }
