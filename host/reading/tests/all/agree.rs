@@ -25,6 +25,28 @@ pub fn decide(policy: &[u8], record: &[u8]) -> Result<Decision, Refusal> {
     same(&[policy, record], answers)
 }
 
+/// What both write to an output of this length. A result touches only the first
+/// bytes, a refusal none.
+pub fn restate(policy: &[u8], length: usize) -> Result<Vec<u8>, Refusal> {
+    let before: Vec<u8> = (0..length).map(untouched).collect();
+    let run = |restate: fn(&[u8], &mut [u8]) -> Result<usize, Refusal>| {
+        let mut output = before.clone();
+        let answer = restate(policy, &mut output);
+        (answer, output)
+    };
+    let (answer, mut output) = same(&[policy], [run(reading::restate), run(second::restate)]);
+    let count = answer.unwrap_or(0);
+    assert!(output[count..] == before[count..], "{}", shown(&[policy]));
+    output.truncate(count);
+    answer.map(|_| output)
+}
+
+/// What a place of an output holds before a call: no byte of ASCII, so nothing
+/// that is written.
+fn untouched(place: usize) -> u8 {
+    0x80 | (place % 113) as u8
+}
+
 fn same<T: PartialEq + Debug>(texts: &[&[u8]], [proved, second]: [T; 2]) -> T {
     assert!(
         proved == second,

@@ -1,4 +1,4 @@
-//! The proved readers of policies and records, Decide, and the second
+//! The proved readers of policies and records, Decide, Restate, and the second
 //! implementation's: both against tables written from the order by hand, and
 //! against each other.
 
@@ -10,6 +10,7 @@ mod generated;
 mod policy;
 mod record;
 mod refusals;
+mod restate;
 mod runs;
 mod tables;
 mod texts;
