@@ -4,7 +4,7 @@ use crate::agree;
 use crate::generated::Tally;
 use second::generate::edits::every_edit;
 
-const POLICIES: [&str; 3] = [
+pub const POLICIES: [&str; 3] = [
     r#"{"Version":"2012-10-17","Statement":[{"Sid":"S1","Effect":"Allow","Action":["s3:Get*","*"],"Resource":"arn:aws:s3:::gate/${*}/*","Condition":{"StringEquals":{"aws:Tag/x":["é",""]},"NumericLessThanEquals":{"k":[7,"10"]}}},{"Effect":"Deny","Action":"s3:P?t","Resource":["*"]}]}"#,
     r#"{"Statement":{"Resource":"*","Condition":{"StringLike":{"k":"*","l":["?","${$}"]},"StringEquals":{"K":"v"}},"Action":"sqs:*","Effect":"Deny"},"Version":"2012-10-17"}"#,
     r#"{"Version":"2012-10-17","Statement":[{"Effect":"Allow","Action":"*","Resource":"*","Sid":"a"},{"Effect":"Deny","Action":["a:b"],"Resource":["arn:::::","*"],"Sid":"b"},{"Effect":"Allow","Action":"*","Resource":"*"}]}"#,

@@ -21,7 +21,7 @@ impl Tally {
         *self.0.entry(number).or_default() += 1;
     }
 
-    fn texts(&self) -> usize {
+    pub fn texts(&self) -> usize {
         self.0.values().sum()
     }
 
@@ -83,7 +83,7 @@ fn generated_records_agree() {
 }
 
 /// A text; edited once or twice, with parts of another; and damaged.
-fn changes(
+pub fn changes(
     text: &[u8],
     other: &[u8],
     damage: fn(&[u8], &mut Random) -> Vec<u8>,

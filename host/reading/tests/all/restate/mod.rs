@@ -1,7 +1,9 @@
 //! Restate: what is written, where, and what is refused.
 
 mod characters;
+mod edited;
 mod forms;
+mod generated;
 mod lengths;
 mod outputs;
 
