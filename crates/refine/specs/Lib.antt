@@ -1,0 +1,4 @@
+-- What the contracts of `refine` cite.
+pub mod Candidates
+pub mod Kinds
+pub mod Entries
