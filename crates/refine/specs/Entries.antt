@@ -83,8 +83,8 @@ legalBeginning p b q =
 
 -- ---- kinds
 
--- no wildcard: itself; one wildcard, a final *: any single text, its text made longer and then *, itself; any other: any
--- single text, itself
+-- no wildcard: itself; one wildcard, a final *: any single text, its text made longer and then *, itself; any other:
+-- any single text, itself
 unfoldable pub wildKind : Place → List ℕ → Kind
 wildKind p ys =
     pick (eqb (wildcards ys) 0) (only (meetsAt p (text ys)))

@@ -1,0 +1,3 @@
+pub mod Contents
+pub mod Bounds
+pub mod Begins
