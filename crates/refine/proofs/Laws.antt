@@ -1,3 +1,4 @@
 pub mod Contents
 pub mod Bounds
-pub mod Begins
+pub mod Beginnings
+pub mod Texts

@@ -19,7 +19,8 @@ use Rattle.policy.specs.Forms.{both, either, all, isAction, isResource}
 use Rattle.decision.specs.Decision.{meets}
 use Rattle.writing.specs.WrittenForm.{bare}
 use Rattle.refine.specs.Candidates.{Candidate, itself, single, under, upTo, Kind}
-use Rattle.refine.specs.Kinds.{begins, texts, only, never, bounds}
+use Rattle.refine.specs.Beginnings.{begins}
+use Rattle.refine.specs.Kinds.{texts, only, never, bounds}
 
 -- the list that an entry stands in
 pub data Place : Type 0 where

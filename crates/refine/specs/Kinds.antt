@@ -8,36 +8,15 @@
 use mathlib.Core.Path.{_≡_}
 use mathlib.Core.Bool.{Bool, true, false}
 use mathlib.Core.Logic.{_⊎_}
-use mathlib.Core.List.{List, [], _∷_}
-use Prim.Native.Nat.{ℕ, zero, suc}
-use lib.Dec.{eqb}
-use lib.ListN.{length, take}
+use mathlib.Core.List.{List, []}
+use Prim.Native.Nat.{ℕ}
 use Rattle.text.specs.Base.{pick}
 use Rattle.policy.specs.Policy.{Value, text, number}
 use Rattle.policy.specs.Forms.{both, same}
 use Rattle.refine.specs.Candidates.{Candidate, itself, single, under, upTo, Kind}
+use Rattle.refine.specs.Beginnings.{begins, shared, longest}
 
 -- ---- texts
-
--- the text t begins with q
-unfoldable pub begins : List ℕ → List ℕ → Bool
-begins [] t = true
-begins (x ∷ q) [] = false
-begins (x ∷ q) (c ∷ t) = both (eqb x c) (begins q t)
-
--- the longest beginning that two texts share, character by character
-unfoldable pub shared : List ℕ → List ℕ → List ℕ
-shared [] t = []
-shared (x ∷ s) [] = []
-shared (x ∷ s) (c ∷ t) = pick (eqb x c) (x ∷ shared s t) []
-
--- the longest beginning of t that passes, of at most n characters; without one, the entry
-unfoldable pub longestUpTo : (List ℕ → Bool) → ℕ → List ℕ → Candidate
-longestUpTo wide zero t = itself
-longestUpTo wide (suc n) t = pick (wide (take (suc n) t)) (under (take (suc n) t)) (longestUpTo wide n t)
-
-abbrev pub longest : (List ℕ → Bool) → List ℕ → Candidate
-longest wide t = longestUpTo wide (length t) t
 
 -- a test on texts, or on numbers, of a value
 abbrev pub ofText : (List ℕ → Bool) → Value → Bool

@@ -1,4 +1,5 @@
 -- What the contracts of `refine` cite.
 pub mod Candidates
+pub mod Beginnings
 pub mod Kinds
 pub mod Entries

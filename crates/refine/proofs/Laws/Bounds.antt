@@ -60,7 +60,10 @@ module _ (le : ℕ → ℕ → Bool) (o : Order le) (n : ℕ) where
   join-both a b i j =
       pick-case (λ (m : ℕ). Least (bounds le n) (Either a b) (upTo m)) (le a b) b a
       (λ h. further a b b j h (o .refl b) (inr (o .refl b)))
-      (λ h. further a b a i (o .refl a) (⊎-elim (λ g. absurd (true-false g h)) (λ g. g) (o .total a b)) (inl (o .refl a)))
+      (λ h. further a b a i (o .refl a) (back h) (inl (o .refl a)))
+    where
+      back : le a b ≡ false → le b a ≡ true
+      back h = ⊎-elim (λ g. absurd (true-false g h)) (λ g. g) (o .total a b)
 
   join : (a b : Candidate) → bounds le n .is a ≡ true → bounds le n .is b ≡ true
       → Least (bounds le n) (λ v. Covers (bounds le n) a v ⊎ Covers (bounds le n) b v) (joinBounds le a b)

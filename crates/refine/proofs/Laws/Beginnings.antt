@@ -13,7 +13,7 @@ use Rattle.text.specs.Base.{pick}
 use Rattle.policy.specs.Forms.{both}
 use Rattle.policy.proofs.Laws.Slots.{true-false, both-true}
 use Rattle.refine.specs.Candidates.{Candidate, itself, under}
-use Rattle.refine.specs.Kinds.{begins, shared, longestUpTo, longest}
+use Rattle.refine.specs.Beginnings.{begins, shared, longestUpTo, longest}
 use Rattle.refine.proofs.Laws.Bounds.{pick-case}
 
 pub both-is : {t u : Bool} → t ≡ true → u ≡ true → both t u ≡ true
