@@ -2,3 +2,5 @@ pub mod Contents
 pub mod Bounds
 pub mod Beginnings
 pub mod Texts
+pub mod Wildcards
+pub mod Entries
