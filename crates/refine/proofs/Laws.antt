@@ -4,3 +4,6 @@ pub mod Beginnings
 pub mod Texts
 pub mod Wildcards
 pub mod Entries
+pub mod Rows
+pub mod Operations
+pub mod Encoding

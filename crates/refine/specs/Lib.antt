@@ -3,3 +3,5 @@ pub mod Candidates
 pub mod Beginnings
 pub mod Kinds
 pub mod Entries
+pub mod Rows
+pub mod Operations

@@ -1,1 +1,3 @@
-// Candidates of entries, and what a room's rows hold. Rooms and their operations are still to come.
+// Rooms of logs: what they hold, and the operations on them.
+pub mod operations;
+pub mod rows;

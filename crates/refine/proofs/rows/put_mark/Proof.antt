@@ -1,0 +1,25 @@
+-- One number behind none.
+use mathlib.Core.Path.{refl, sym, _∙_}
+use native.Mathlib.Omega.{arith}
+use Rattle.refine.proofs.Laws.Rows.{filled-none, filled-next, filled-length}
+use borrow.Author.Needs.{needs}
+use Rattle.refine.proofs.rows.put_mark.Statement.{statement}
+use Rattle.refine.proofs.rows.put_mark.Tie as tie
+
+clear-requires : tie.Need-clear-requires
+clear-requires c κs = search needs
+
+slice-write-row : tie.Need-slice-write-row
+slice-write-row c =
+    omega (arith, filled-length (filled-none (c .before .before .before .before .before .pre) (c .before .before .clear .ensures)) (omega arith))
+
+same-length : tie.Need-same-length
+same-length c =
+    filled-length (filled-next 0 (c .before .before .before .before .before .args .mark) (filled-none (c .before .before .before .before .before .pre) (c .before .before .clear .ensures)) refl (omega arith)) (omega arith) ∙ sym (c .before .before .before .before .before .pre)
+
+returns : tie.Need-returns
+returns c =
+    (filled-next 0 (c .before .before .before .before .before .args .mark) (filled-none (c .before .before .before .before .before .pre) (c .before .before .clear .ensures)) refl (omega arith)) .is
+
+pub put-mark-spec : {M : Type 1} → statement M
+put-mark-spec = tie.close (tie.spec clear-requires slice-write-row same-length returns)

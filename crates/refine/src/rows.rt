@@ -1,0 +1,67 @@
+// One row of a room: what it holds, in one encoding for each content.
+ghost use mathlib.Core.Path.{_≡_};
+ghost use mathlib.Core.List.{[], _∷_};
+ghost use lib.ListN.{length, replicate};
+ghost use Prim.Native.Nat.{ℕ, _≤_};
+ghost use Rattle.refine.specs.Rows.{rowNumbers, textCharacters, padded, textRow, numberRow, isZero};
+use policy::limits;
+
+// All of it zero.
+pub fn clear(row: &mut [u32])
+    ensures { λ r. ⌜ now (row .exit) ≡ replicate (length (now (row .entry))) 0 ⌝ }
+{
+    let mut i = 0usize;
+    while i < row.len() {
+        row[i] = 0;
+        i = i + 1;
+    }
+}
+
+// Is all of it zero?
+pub fn is_zero(row: &[u32]) -> bool
+    ensures { λ r. ⌜ r ≡ isZero (now (row .entry)) ⌝ }
+{
+    let mut i = 0usize;
+    while i < row.len() {
+        if row[i] != 0 {
+            return false;
+        }
+        i = i + 1;
+    }
+    true
+}
+
+// A mark alone.
+pub fn put_mark(row: &mut [u32], mark: u32)
+    requires { ⌜ length (now row) ≡ rowNumbers ⌝ }
+    ensures { λ r. ⌜ now (row .exit) ≡ padded (mark ∷ []) ⌝ }
+{
+    clear(row);
+    row[0] = mark;
+}
+
+// A mark, and a text behind its length.
+pub fn put_text(row: &mut [u32], mark: u32, cs: &[u32])
+    requires { ⌜ (length (now row) ≡ rowNumbers) × (length (now cs) ≤ textCharacters) ⌝ }
+    ensures { λ r. ⌜ now (row .exit) ≡ textRow mark (now (cs .entry)) ⌝ }
+{
+    clear(row);
+    row[0] = mark;
+    row[1] = cs.len() as u32;
+    let mut i = 0usize;
+    while i < cs.len() {
+        row[i + 2] = cs[i];
+        i = i + 1;
+    }
+}
+
+// A mark, and a number by its halves.
+pub fn put_number(row: &mut [u32], mark: u32, n: u64)
+    requires { ⌜ length (now row) ≡ rowNumbers ⌝ }
+    ensures { λ r. ⌜ now (row .exit) ≡ numberRow mark n ⌝ }
+{
+    clear(row);
+    row[0] = mark;
+    row[1] = (n / limits::HALF) as u32;
+    row[2] = (n % limits::HALF) as u32;
+}
