@@ -4,6 +4,8 @@ pub mod Beginnings
 pub mod Texts
 pub mod Wildcards
 pub mod Entries
+pub mod Plain
+pub mod Refined
 pub mod Rows
-pub mod Operations
 pub mod Encoding
+pub mod Operations
