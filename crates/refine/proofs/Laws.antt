@@ -6,6 +6,7 @@ pub mod Wildcards
 pub mod Entries
 pub mod Plain
 pub mod Refined
+pub mod Trials
 pub mod Rows
 pub mod Encoding
 pub mod Operations
