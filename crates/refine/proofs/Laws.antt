@@ -10,3 +10,5 @@ pub mod Trials
 pub mod Rows
 pub mod Encoding
 pub mod Operations
+pub mod Comparing
+pub mod Legality

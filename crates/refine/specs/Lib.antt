@@ -3,5 +3,6 @@ pub mod Candidates
 pub mod Beginnings
 pub mod Kinds
 pub mod Entries
+pub mod Places
 pub mod Rows
 pub mod Operations

@@ -12,7 +12,8 @@ use lib.Dec.{eqb}
 use lib.ListN.{length, getD, take, drop, replicate}
 use Rattle.text.specs.Base.{pick}
 use Rattle.policy.specs.Forms.{both, same}
-use Rattle.refine.specs.Candidates.{Candidate, itself, single, under, upTo, Content, empty, holds, Kind, isContent}
+use Rattle.refine.specs.Candidates.{Candidate, itself, single, under, upTo, Content, empty, holds, Kind}
+use Rattle.refine.specs.Candidates.{isContent}
 
 abbrev pub rowNumbers : ℕ
 rowNumbers = 256

@@ -1,3 +1,5 @@
-// Rooms of logs: what they hold, and the operations on them.
+// Rooms of logs: candidates of entries, the rows that hold them, and the operations on rooms.
+pub mod beginnings;
+pub mod legality;
 pub mod operations;
 pub mod rows;

@@ -13,7 +13,8 @@ use lib.Seq.{take-append-seam}
 use Rattle.policy.specs.Forms.{both, same}
 use Rattle.policy.proofs.Laws.Same.{same-sound, same-complete}
 use Rattle.policy.proofs.Laws.Slots.{both-true}
-use Rattle.refine.specs.Candidates.{Candidate, itself, single, under, upTo, Content, empty, holds, Kind, isContent}
+use Rattle.refine.specs.Candidates.{Candidate, itself, single, under, upTo, Content, empty, holds, Kind}
+use Rattle.refine.specs.Candidates.{isContent}
 use Rattle.refine.specs.Rows.{rowNumbers, textCharacters, padded, row, contentOf, isRow}
 
 -- texts of at most 254 characters; numbers have two halves in any case

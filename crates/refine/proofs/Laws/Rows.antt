@@ -20,10 +20,12 @@ zeros n = replicate n 0
 zeros-more : (n : ℕ) → 0 < n → zeros n ≡ 0 ∷ zeros (n - 1)
 zeros-more n h = let e : n ≡ suc (n - 1) = omega arith in ap zeros e
 
-pub padded-set : (xs : List ℕ) (a : ℕ) → length xs < rowNumbers → set (padded xs) (length xs) a ≡ padded (xs ++ (a ∷ []))
+pub padded-set : (xs : List ℕ) (a : ℕ) → length xs < rowNumbers → set (padded xs) (length xs) a ≡ padded
+    (xs ++ (a ∷ []))
 unfolding padded
 padded-set xs a h =
-    let e : rowNumbers - length xs - 1 ≡ rowNumbers - length (xs ++ (a ∷ [])) = omega (arith, length-append xs (a ∷ [])) in
+    let e : rowNumbers - length xs - 1 ≡ rowNumbers - length (xs ++ (a ∷ [])) = omega
+    (arith, length-append xs (a ∷ [])) in
     ap (λ (l : List ℕ). set (xs ++ l) (length xs) a) (zeros-more (rowNumbers - length xs) (omega arith))
     ∙ set-append-seam xs 0 (zeros (rowNumbers - length xs - 1)) a
     ∙ sym (append-assoc xs (a ∷ []) (zeros (rowNumbers - length xs - 1)))

@@ -11,15 +11,22 @@ clear-requires c κs = search needs
 
 slice-write-row : tie.Need-slice-write-row
 slice-write-row c =
-    omega (arith, filled-length (filled-none (c .before .before .before .before .before .pre) (c .before .before .clear .ensures)) (omega arith))
+    let at-clear = c .before .before in
+    let start = at-clear .before .before .before in
+    omega (arith, filled-length (filled-none (start .pre) (at-clear .clear .ensures)) (omega arith))
 
 same-length : tie.Need-same-length
 same-length c =
-    filled-length (filled-next 0 (c .before .before .before .before .before .args .mark) (filled-none (c .before .before .before .before .before .pre) (c .before .before .clear .ensures)) refl (omega arith)) (omega arith) ∙ sym (c .before .before .before .before .before .pre)
+    let at-clear = c .before .before in
+    let start = at-clear .before .before .before in
+    filled-length (filled-next 0 (start .args .mark) (filled-none (start .pre) (at-clear .clear .ensures)) refl
+    (omega arith)) (omega arith) ∙ sym (start .pre)
 
 returns : tie.Need-returns
 returns c =
-    (filled-next 0 (c .before .before .before .before .before .args .mark) (filled-none (c .before .before .before .before .before .pre) (c .before .before .clear .ensures)) refl (omega arith)) .is
+    let at-clear = c .before .before in
+    let start = at-clear .before .before .before in
+    (filled-next 0 (start .args .mark) (filled-none (start .pre) (at-clear .clear .ensures)) refl (omega arith)) .is
 
 pub put-mark-spec : {M : Type 1} → statement M
 put-mark-spec = tie.close (tie.spec clear-requires slice-write-row same-length returns)

@@ -12,29 +12,54 @@ clear-requires c κs = search needs
 
 slice-write-row : tie.Need-slice-write-row
 slice-write-row c =
-    omega (arith, filled-length (filled-none (c .before .before .before .before .before .pre) (c .before .before .clear .ensures)) (omega arith))
+    let at-clear = c .before .before in
+    let start = at-clear .before .before .before in
+    omega (arith, filled-length (filled-none (start .pre) (at-clear .clear .ensures)) (omega arith))
 
 cast-row : tie.Need-cast-row
 cast-row c = search needs
 
 slice-write-row-2 : tie.Need-slice-write-row-2
 slice-write-row-2 c =
-    omega (arith, filled-length (filled-next 0 (c .before .before .before .before .before .args .mark) (filled-none (c .before .before .before .before .before .pre) (c .before .before .clear .ensures)) refl (omega arith)) (omega arith))
+    let at-clear = c .before .before in
+    let start = at-clear .before .before .before in
+    omega (
+      arith,
+      filled-length (filled-next 0 (start .args .mark)
+          (filled-none (start .pre) (at-clear .clear .ensures)) refl (omega arith)) (omega arith),
+    )
 
 cast-row-2 : tie.Need-cast-row-2
 cast-row-2 c = search needs
 
 slice-write-row-3 : tie.Need-slice-write-row-3
 slice-write-row-3 c =
-    omega (arith, filled-length (filled-next 1 (c .before .before .before .before .before .args .n / 4294967296) (filled-next 0 (c .before .before .before .before .before .args .mark) (filled-none (c .before .before .before .before .before .pre) (c .before .before .clear .ensures)) refl (omega arith)) refl (omega arith)) (omega arith))
+    let at-clear = c .before .before in
+    let start = at-clear .before .before .before in
+    omega (
+      arith,
+      filled-length (filled-next 1 (start .args .n / 4294967296)
+          (filled-next 0 (start .args .mark) (filled-none (start .pre) (at-clear .clear .ensures)) refl (omega arith)) refl
+          (omega arith)) (omega arith),
+    )
 
 same-length : tie.Need-same-length
 same-length c =
-    filled-length (filled-next 2 (c .before .before .before .before .before .args .n % 4294967296) (filled-next 1 (c .before .before .before .before .before .args .n / 4294967296) (filled-next 0 (c .before .before .before .before .before .args .mark) (filled-none (c .before .before .before .before .before .pre) (c .before .before .clear .ensures)) refl (omega arith)) refl (omega arith)) refl (omega arith)) (omega arith) ∙ sym (c .before .before .before .before .before .pre)
+    let at-clear = c .before .before in
+    let start = at-clear .before .before .before in
+    filled-length (filled-next 2 (start .args .n % 4294967296)
+    (filled-next 1 (start .args .n / 4294967296)
+    (filled-next 0 (start .args .mark) (filled-none (start .pre) (at-clear .clear .ensures)) refl (omega arith)) refl
+    (omega arith)) refl (omega arith)) (omega arith) ∙ sym (start .pre)
 
 returns : tie.Need-returns
 returns c =
-    (filled-next 2 (c .before .before .before .before .before .args .n % 4294967296) (filled-next 1 (c .before .before .before .before .before .args .n / 4294967296) (filled-next 0 (c .before .before .before .before .before .args .mark) (filled-none (c .before .before .before .before .before .pre) (c .before .before .clear .ensures)) refl (omega arith)) refl (omega arith)) refl (omega arith)) .is
+    let at-clear = c .before .before in
+    let start = at-clear .before .before .before in
+    (filled-next 2 (start .args .n % 4294967296)
+    (filled-next 1 (start .args .n / 4294967296)
+    (filled-next 0 (start .args .mark) (filled-none (start .pre) (at-clear .clear .ensures)) refl (omega arith)) refl
+    (omega arith)) refl (omega arith)) .is
 
 pub put-number-spec : {M : Type 1} → statement M
 put-number-spec =

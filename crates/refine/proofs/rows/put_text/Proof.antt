@@ -3,7 +3,8 @@ use mathlib.Core.Path.{refl, sym, _∙_}
 use Prim.Native.Nat.{_-_}
 use native.Mathlib.Omega.{arith}
 use lib.ListN.{length}
-use Rattle.refine.proofs.Laws.Rows.{filled-none, filled-next, filled-length, Texting, texting-start, texting-length, texting-next, texting-end}
+use Rattle.refine.proofs.Laws.Rows.{filled-none, filled-next, filled-length, Texting, texting-start}
+use Rattle.refine.proofs.Laws.Rows.{texting-length, texting-next, texting-end}
 use borrow.Author.Needs.{needs}
 use Rattle.refine.proofs.rows.put_text.Statement.{statement}
 use Rattle.refine.proofs.rows.put_text.Tie as tie
@@ -19,18 +20,29 @@ clear-requires c κs = search needs
 
 slice-write-row : tie.Need-slice-write-row Inv-loop μ-loop
 slice-write-row c =
-    omega (arith, filled-length (filled-none (c .before .before .before .before .before .before .pre .0) (c .before .before .clear .ensures)) (omega arith))
+    let at-clear = c .before .before in
+    let start = at-clear .before .before .before .before in
+    omega (arith, filled-length (filled-none (start .pre .0) (at-clear .clear .ensures)) (omega arith))
 
 cast-row : tie.Need-cast-row Inv-loop μ-loop
 cast-row c = omega (arith, c .before .before .before .before .before .before .pre .1)
 
 slice-write-row-2 : tie.Need-slice-write-row-2 Inv-loop μ-loop
 slice-write-row-2 c =
-    omega (arith, filled-length (filled-next 0 (c .before .before .before .before .before .before .args .mark) (filled-none (c .before .before .before .before .before .before .pre .0) (c .before .before .clear .ensures)) refl (omega arith)) (omega arith))
+    let at-clear = c .before .before in
+    let start = at-clear .before .before .before .before in
+    omega (
+      arith,
+      filled-length (filled-next 0 (start .args .mark)
+          (filled-none (start .pre .0) (at-clear .clear .ensures)) refl (omega arith)) (omega arith),
+    )
 
 loop-holds : tie.Need-loop-holds Inv-loop μ-loop
 loop-holds c =
-    texting-start _ _ (filled-next 1 _ (filled-next 0 (c .before .before .before .before .before .before .args .mark) (filled-none (c .before .before .before .before .before .before .pre .0) (c .before .before .clear .ensures)) refl (omega arith)) refl (omega arith))
+    let at-clear = c .before .before in
+    let start = at-clear .before .before .before .before in
+    texting-start _ _ (filled-next 1 _ (filled-next 0 (start .args .mark)
+    (filled-none (start .pre .0) (at-clear .clear .ensures)) refl (omega arith)) refl (omega arith))
 
 mul-row : tie.Need-mul-row Inv-loop μ-loop
 mul-row c = search needs
@@ -40,15 +52,19 @@ shared-slice-read-row c = search needs
 
 add-row : tie.Need-add-row Inv-loop μ-loop
 add-row c =
-    omega (arith, c .before .loop-test .taken, c .before .before .before .before .before .before .before .before .before .pre .1)
+    let start = c .before .before .before .before .before .before .before .before .before in
+    omega (arith, c .before .loop-test .taken, start .pre .1)
 
 mul-row-2 : tie.Need-mul-row-2 Inv-loop μ-loop
 mul-row-2 c =
-    omega (arith, c .before .loop-test .taken, c .before .before .before .before .before .before .before .before .before .pre .1)
+    let start = c .before .before .before .before .before .before .before .before .before in
+    omega (arith, c .before .loop-test .taken, start .pre .1)
 
 slice-write-row-3 : tie.Need-slice-write-row-3 Inv-loop μ-loop
 slice-write-row-3 c =
-    omega (arith, c .before .loop-test .taken, c .before .before .before .before .before .before .before .before .before .pre .1, texting-length _ _ (c .before .before .loop .inv) (c .before .before .before .before .before .before .before .before .before .pre .1))
+    let at-loop = c .before .before in
+    let start = at-loop .before .before .before .before .before .before .before in
+    omega (arith, c .before .loop-test .taken, start .pre .1, texting-length _ _ (at-loop .loop .inv) (start .pre .1))
 
 add-i : tie.Need-add-i Inv-loop μ-loop
 add-i c = search needs
@@ -58,15 +74,19 @@ loop-less c = search needs
 
 loop-again : tie.Need-loop-again Inv-loop μ-loop
 loop-again c =
-    texting-next _ _ (c .before .before .loop .inv) (c .before .before .before .before .before .before .before .before .before .pre .1) (c .before .loop-test .taken)
+    let at-loop = c .before .before in
+    let start = at-loop .before .before .before .before .before .before .before in
+    texting-next _ _ (at-loop .loop .inv) (start .pre .1) (c .before .loop-test .taken)
 
 same-length : tie.Need-same-length Inv-loop μ-loop
 same-length c =
-    texting-length _ _ (c .before .loop .inv) (c .before .before .before .before .before .before .before .before .pre .1) ∙ sym (c .before .before .before .before .before .before .before .before .pre .0)
+    let start = c .before .before .before .before .before .before .before .before in
+    texting-length _ _ (c .before .loop .inv) (start .pre .1) ∙ sym (start .pre .0)
 
 returns : tie.Need-returns Inv-loop μ-loop
 returns c =
-    texting-end _ _ (c .before .loop .inv) (c .before .before .before .before .before .before .before .before .pre .1) (c .loop-test .left)
+    let start = c .before .before .before .before .before .before .before .before in
+    texting-end _ _ (c .before .loop .inv) (start .pre .1) (c .loop-test .left)
 
 pub put-text-spec : {M : Type 1} → statement M
 put-text-spec =
