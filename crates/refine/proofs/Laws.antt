@@ -12,3 +12,4 @@ pub mod Encoding
 pub mod Operations
 pub mod Comparing
 pub mod Legality
+pub mod Outcomes

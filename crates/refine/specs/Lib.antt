@@ -5,4 +5,6 @@ pub mod Kinds
 pub mod Entries
 pub mod Places
 pub mod Rows
+pub mod Rooms
+pub mod Finishing
 pub mod Operations
