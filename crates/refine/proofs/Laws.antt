@@ -1,4 +1,5 @@
 pub mod Contents
+pub mod Covered
 pub mod Bounds
 pub mod Beginnings
 pub mod Texts

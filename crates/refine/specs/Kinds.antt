@@ -3,11 +3,8 @@
 --                     the beginnings that `wide` lets pass, each with *; held is the longest shared one that passes
 --   only m            the same with no other candidate than the entry itself
 --   bounds le n       the numbers not beyond n in an order; held is the furthest
---   Texts m one wide  what makes `texts` lawful;  Order le   what makes `bounds` lawful, whatever its direction
--- Differs from 01: nowhere.  Pinned by: Laws/Texts, Laws/Bounds.
-use mathlib.Core.Path.{_≡_}
+-- Differs from 01: nowhere.  Pinned by: Laws/Texts, Laws/Bounds (what each needs of m, one, wide and le to be lawful).
 use mathlib.Core.Bool.{Bool, true, false}
-use mathlib.Core.Logic.{_⊎_}
 use mathlib.Core.List.{List, []}
 use Prim.Native.Nat.{ℕ}
 use Rattle.text.specs.Base.{pick}
@@ -15,8 +12,6 @@ use Rattle.policy.specs.Policy.{Value, text, number}
 use Rattle.policy.specs.Forms.{both, same}
 use Rattle.refine.specs.Candidates.{Candidate, itself, single, under, upTo, Kind}
 use Rattle.refine.specs.Beginnings.{begins, shared, longest}
-
--- ---- texts
 
 -- a test on texts, or on numbers, of a value
 abbrev pub ofText : (List ℕ → Bool) → Value → Bool
@@ -27,23 +22,28 @@ abbrev pub ofNumber : (ℕ → Bool) → Value → Bool
 ofNumber f (text t) = false
 ofNumber f (number n) = f n
 
+-- ---- texts
+
+-- which candidates there are
 abbrev pub isOfTexts : (Value → Bool) → (List ℕ → Bool) → (List ℕ → Bool) → Candidate → Bool
 isOfTexts m one wide itself = true
 isOfTexts m one wide (single t) = both (m (text t)) (one t)
 isOfTexts m one wide (under q) = wide q
 isOfTexts m one wide (upTo n) = false
 
+-- what each covers
 abbrev pub textsCover : (Value → Bool) → Candidate → Value → Bool
 textsCover m itself v = m v
 textsCover m (single t) v = ofText (same t) v
 textsCover m (under q) v = ofText (begins q) v
 textsCover m (upTo n) v = false
 
+-- what one value generalises to
 abbrev pub leastOfText : (List ℕ → Bool) → (List ℕ → Bool) → Value → Candidate
 leastOfText one wide (text t) = pick (one t) (single t) (longest wide t)
 leastOfText one wide (number n) = itself
 
--- the text that all begin with which a candidate covers, as far as it is known without the entry
+-- the text with which all begin that a candidate covers; of the entry itself no more is known than the empty one
 abbrev pub textOf : Candidate → List ℕ
 textOf itself = []
 textOf (single t) = t
@@ -60,6 +60,7 @@ isSingle (upTo n) = false
 abbrev pub oneText : Candidate → Candidate → Bool
 oneText a b = both (isSingle a) (both (isSingle b) (same (textOf a) (textOf b)))
 
+-- that single, or the longest shared beginning that passes, or the entry itself
 abbrev pub joinOfTexts : (List ℕ → Bool) → Candidate → Candidate → Candidate
 joinOfTexts wide a b = pick (oneText a b) a (longest wide (shared (textOf a) (textOf b)))
 
@@ -78,12 +79,6 @@ never t = false
 
 abbrev pub only : (Value → Bool) → Kind
 only m = texts m never never
-
--- the entry matches what a beginning covers, and more; and more than a single text
-pub record Texts (m : Value → Bool) (one wide : List ℕ → Bool) : Type 0 where
-  pub inside : (q t : List ℕ) → wide q ≡ true → begins q t ≡ true → m (text t) ≡ true
-  pub wider : (q : List ℕ) → wide q ≡ true → (t : List ℕ) × (m (text t) ≡ true) × (begins q t ≡ false)
-  pub several : (s : List ℕ) → one s ≡ true → (t : List ℕ) × (m (text t) ≡ true) × (same s t ≡ false)
 
 -- ---- numbers
 
@@ -109,6 +104,7 @@ abbrev pub leastBound : Value → Candidate
 leastBound (text t) = itself
 leastBound (number n) = upTo n
 
+-- the further of the two
 abbrev pub joinBounds : (ℕ → ℕ → Bool) → Candidate → Candidate → Candidate
 joinBounds le a b = upTo (pick (le (numberOf a) (numberOf b)) (numberOf b) (numberOf a))
 
@@ -121,9 +117,3 @@ bounds le n =
       least = leastBound;
       join = joinBounds le;
     }
-
-pub record Order (le : ℕ → ℕ → Bool) : Type 0 where
-  pub refl : (a : ℕ) → le a a ≡ true
-  pub trans : (a b c : ℕ) → le a b ≡ true → le b c ≡ true → le a c ≡ true
-  pub antisym : (a b : ℕ) → le a b ≡ true → le b a ≡ true → a ≡ b
-  pub total : (a b : ℕ) → (le a b ≡ true) ⊎ (le b a ≡ true)

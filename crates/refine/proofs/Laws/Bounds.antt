@@ -11,7 +11,13 @@ use Rattle.text.specs.Base.{pick}
 use Rattle.policy.specs.Policy.{Value, text, number}
 use Rattle.policy.proofs.Laws.Slots.{true-false}
 use Rattle.refine.specs.Candidates.{Candidate, itself, single, under, upTo, Covers, Under, Least, Lawful}
-use Rattle.refine.specs.Kinds.{boundCovers, joinBounds, bounds, Order}
+use Rattle.refine.specs.Kinds.{boundCovers, joinBounds, bounds}
+
+pub record Order (le : ℕ → ℕ → Bool) : Type 0 where
+  pub refl : (a : ℕ) → le a a ≡ true
+  pub trans : (a b c : ℕ) → le a b ≡ true → le b c ≡ true → le a c ≡ true
+  pub antisym : (a b : ℕ) → le a b ≡ true → le b a ≡ true → a ≡ b
+  pub total : (a b : ℕ) → (le a b ≡ true) ⊎ (le b a ≡ true)
 
 pub pick-case : {A : Type 0} (F : A → Type 0) (b : Bool) (x y : A) → (b ≡ true → F x) → (b ≡ false → F y)
     → F (pick b x y)

@@ -15,12 +15,12 @@ use Rattle.policy.proofs.Laws.Slots.{true-false, both-true}
 use Rattle.decision.specs.Matching.{matches}
 use Rattle.refine.specs.Candidates.{Kind, Lawful}
 use Rattle.refine.specs.Beginnings.{begins}
-use Rattle.refine.specs.Kinds.{texts, only, never, bounds, Texts}
+use Rattle.refine.specs.Kinds.{texts, only, never, bounds}
 use Rattle.refine.specs.Entries.{Place, inAction, inResource, inRow, comparison, meetsAt, wildcards, lastOf}
 use Rattle.refine.specs.Entries.{before, isLegal, isPlain, legalText, legalBeginning, wildKind, kindOf}
 use Rattle.refine.proofs.Laws.Bounds.{pick-case, bounds-lawful, upward}
 use Rattle.refine.proofs.Laws.Beginnings.{begins-refl, begins-trans, begins-length}
-use Rattle.refine.proofs.Laws.Texts.{texts-lawful, only-lawful}
+use Rattle.refine.proofs.Laws.Texts.{Texts, texts-lawful, only-lawful}
 use Rattle.refine.proofs.Laws.Wildcards.{star-matches, Final, final-is, several}
 
 -- ---- legal beginnings

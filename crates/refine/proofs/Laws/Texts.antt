@@ -1,4 +1,5 @@
--- `texts` is lawful: a single text is the narrowest that covers it, and among beginnings the longest is.
+-- `texts` is lawful, whatever is legal, where `Texts` holds: a single text is the narrowest that covers it, and among
+-- beginnings the longest is.
 use mathlib.Core.Path.{_≡_, refl, sym, ap, _∙_, subst}
 use mathlib.Core.Bool.{Bool, true, false}
 use mathlib.Core.Logic.{_⊎_, inl, inr, ⊎-elim}
@@ -14,11 +15,17 @@ use Rattle.policy.proofs.Laws.Same.{same-sound, same-complete}
 use Rattle.refine.specs.Candidates.{Candidate, itself, single, under, upTo, Kind, Covers, Under, Least, Lawful}
 use Rattle.refine.specs.Beginnings.{begins, shared, longest}
 use Rattle.refine.specs.Kinds.{texts, textOf, oneText, joinOfTexts, leastOfText}
-use Rattle.refine.specs.Kinds.{never, only, Texts}
+use Rattle.refine.specs.Kinds.{never, only}
 use Rattle.refine.proofs.Laws.Bounds.{pick-case}
 use Rattle.refine.proofs.Laws.Beginnings.{both-is, begins-refl, begins-trans, begins-antisym, begins-length}
 use Rattle.refine.proofs.Laws.Beginnings.{begins-more, shared-left, shared-right, shared-longest}
 use Rattle.refine.proofs.Laws.Beginnings.{Longest, found, none, longest-is}
+
+-- the entry matches what a beginning covers, and more; and more than a single text
+pub record Texts (m : Value → Bool) (one wide : List ℕ → Bool) : Type 0 where
+  pub inside : (q t : List ℕ) → wide q ≡ true → begins q t ≡ true → m (text t) ≡ true
+  pub wider : (q : List ℕ) → wide q ≡ true → (t : List ℕ) × (m (text t) ≡ true) × (begins q t ≡ false)
+  pub several : (s : List ℕ) → one s ≡ true → (t : List ℕ) × (m (text t) ≡ true) × (same s t ≡ false)
 
 nothing-begins : (q : List ℕ) → begins q [] ≡ true → q ≡ []
 unfolding begins
