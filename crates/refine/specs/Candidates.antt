@@ -1,15 +1,16 @@
 -- Candidates: document 01, "Charging and candidates", behind one interface; a row of a room is empty or holds one.
 --   Kind           what refining asks of an entry: its candidates, what each covers, and the least ones
---   Under k a b    what a covers, b covers;  Least k S c   c is the least candidate that covers the values S
+--   Under k a b    what a covers, b covers; Below, of rows
+--   Least k S c    c is the least candidate that covers the values S
 --   Lawful k       what every kind must keep to; demand 3 rests on nothing else of it
---   charged k r v  a row's content r once v is charged too;  joined k a b   Join, of two rows' contents
+--   joined k a b   Join, of two rows' contents;  charged k r v   a row's content r once v is charged too
 --   held k vs      what an empty row comes to hold of the values vs, charged in their order
 --   Holds k S r    r is right for the values S: empty if there are none, else their least candidate
--- Differs from 01: nowhere.  Pinned by: Laws/Contents.
+-- Differs from 01: nowhere.  Pinned by: Laws/Contents, Laws/Covered.
 use mathlib.Core.Path.{_≡_}
 use mathlib.Core.Bool.{Bool, true}
 use mathlib.Core.Logic.{_⊎_}
-use mathlib.Core.List.{List, [], _∷_}
+use mathlib.Core.List.{List, [], _∷_, List·Memᴰ}
 use Prim.Native.Nat.{ℕ}
 use Rattle.policy.specs.Policy.{Value}
 
@@ -78,6 +79,28 @@ held k vs = heldFrom k empty vs
 abbrev pub isContent : Kind → Content → Bool
 isContent k empty = true
 isContent k (holds c) = k .is c
+
+-- ---- what rows cover
+
+-- an empty one nothing
+abbrev pub Covered : Kind → Content → Value → Type 0
+Covered k empty v = ⊥
+Covered k (holds c) v = Covers k c v
+
+abbrev pub Below : Kind → Content → Content → Type 0
+Below k a b = (v : Value) → Covered k a v → Covered k b v
+
+-- a value is among those of a list; each of them is one that the entry matches
+abbrev pub Among : List Value → Value → Type 0
+Among vs v = List·Memᴰ v vs
+
+abbrev pub Matched : Kind → List Value → Type 0
+Matched k vs = (v : Value) → Among vs v → Covers k (k .whole) v
+
+-- two sets of values are the same
+pub record Alike (S R : Value → Type 0) : Type 0 where
+  pub to : (v : Value) → S v → R v
+  pub from : (v : Value) → R v → S v
 
 pub data Holds (k : Kind) (S : Value → Type 0) : Content → Type 0 where
   nothing : ((v : Value) → S v → ⊥) → Holds k S empty

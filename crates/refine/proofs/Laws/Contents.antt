@@ -5,23 +5,12 @@
 use mathlib.Core.Path.{_≡_, refl, ap}
 use mathlib.Core.Bool.{true}
 use mathlib.Core.Logic.{_⊎_, inl, inr, ⊎-elim}
-use mathlib.Core.List.{List, [], _∷_, _++_, List·Memᴰ, List·Memᴰ·head, List·Memᴰ·tail}
+use mathlib.Core.List.{List, [], _∷_, _++_, List·Memᴰ·head, List·Memᴰ·tail}
 use mathlib.Core.List.{Memᴰ·append-left, Memᴰ·append-right, List·Memᴰ·append-cases}
 use Rattle.policy.specs.Policy.{Value}
 use Rattle.refine.specs.Candidates.{Candidate, Content, empty, holds, Kind, Covers, Under, Least, Lawful}
-use Rattle.refine.specs.Candidates.{joined, charged, heldFrom, held, isContent, Holds, nothing, least}
-
--- two sets of values that have the same
-pub record Alike (S R : Value → Type 0) : Type 0 where
-  pub to : (v : Value) → S v → R v
-  pub from : (v : Value) → R v → S v
-
-abbrev pub Among : List Value → Value → Type 0
-Among vs v = List·Memᴰ v vs
-
--- each of the values is one that the entry matches
-abbrev pub Matched : Kind → List Value → Type 0
-Matched k vs = (v : Value) → Among vs v → Covers k (k .whole) v
+use Rattle.refine.specs.Candidates.{joined, charged, heldFrom, held, isContent, Among, Matched, Alike, Holds}
+use Rattle.refine.specs.Candidates.{nothing, least}
 
 -- ---- least candidates
 
@@ -47,6 +36,10 @@ module _ {k : Kind} (w : Lawful k) where
   least-unique {S} {R} {c} {d} e l m =
       w .same c d (l .among) (m .among) (l .least d (m .among) (λ v s. m .all v (e .to v s)))
       (m .least c (l .among) (λ v r. l .all v (e .from v r)))
+
+  -- a candidate that covers all that the entry does is the entry
+  pub whole-unique : (c : Candidate) → k .is c ≡ true → Under k (k .whole) c → c ≡ k .whole
+  whole-unique c i u = w .same c (k .whole) i (w .whole) (w .inside c i) u
 
   pub holds-unique : {S R : Value → Type 0} {a b : Content} → Alike S R → Holds k S a → Holds k R b → a ≡ b
   holds-unique e (nothing n) (nothing m) = refl

@@ -6,17 +6,10 @@ use mathlib.Core.Logic.{inl, inr, ⊎-elim}
 use mathlib.Core.List.{List, [], _∷_, List·Memᴰ·head, List·Memᴰ·tail}
 use Rattle.policy.specs.Policy.{Value}
 use Rattle.refine.specs.Candidates.{Content, empty, holds, Kind, Covers, Lawful}
-use Rattle.refine.specs.Candidates.{joined, charged, heldFrom, held, isContent, Holds, nothing, least}
-use Rattle.refine.proofs.Laws.Contents.{Matched, joined-assoc, joined-content, joined-empty, holds-content}
+use Rattle.refine.specs.Candidates.{joined, charged, heldFrom, held, isContent, Covered, Below, Matched, Holds}
+use Rattle.refine.specs.Candidates.{nothing, least}
+use Rattle.refine.proofs.Laws.Contents.{joined-assoc, joined-content, joined-empty, holds-content}
 use Rattle.refine.proofs.Laws.Contents.{held-least}
-
-abbrev pub Covered : Kind → Content → Value → Type 0
-Covered k empty v = ⊥
-Covered k (holds c) v = Covers k c v
-
--- what a covers, b covers
-abbrev pub Below : Kind → Content → Content → Type 0
-Below k a b = (v : Value) → Covered k a v → Covered k b v
 
 -- ---- a row that is right
 
