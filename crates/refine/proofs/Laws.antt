@@ -6,6 +6,7 @@ pub mod Texts
 pub mod Wildcards
 pub mod Entries
 pub mod Plain
+pub mod Logged
 pub mod Refined
 pub mod Trials
 pub mod Rows

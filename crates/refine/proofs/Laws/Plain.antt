@@ -29,7 +29,7 @@ scalar-inv c e = by (leb c 55295) refl e
         let p = both-true (leb 57344 c) (leb c 1114111) e in
         high (record { low = leb-true 57344 c (p .0); high = leb-true c 1114111 (p .1) })
 
-scalar-below : {c : ℕ} → Scalar c → c < star
+pub scalar-below : {c : ℕ} → Scalar c → c < star
 scalar-below (low h) = omega arith
 scalar-below (high i) = let h = i .high in omega arith
 
