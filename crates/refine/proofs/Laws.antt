@@ -2,6 +2,7 @@ pub mod Contents
 pub mod Covered
 pub mod Bounds
 pub mod Beginnings
+pub mod TextsCover
 pub mod Texts
 pub mod Wildcards
 pub mod Entries

@@ -1,15 +1,14 @@
 -- Beginnings of texts: an order, of which the shared one is the longest below two texts, and the longest of a text that
 -- passes a test.
-use mathlib.Core.Path.{_≡_, refl, sym, ap, _∙_, subst}
+use mathlib.Core.Path.{_≡_, refl, sym, _∙_, subst}
 use mathlib.Core.Bool.{Bool, true, false}
 use mathlib.Core.List.{List, [], _∷_, _++_}
-use Prim.Native.Nat.{ℕ, zero, suc, _≤_, _<_}
+use Prim.Native.Nat.{ℕ, zero, suc, _≤_}
 use native.Mathlib.Omega.{arith}
 use native.Mathlib.Decide.{ℕ-discrete}
 use lib.Dec.{eqb}
 use lib.ListN.{length, take}
 use borrow.Author.Tests.{eqb-true, eq-eqb}
-use Rattle.text.specs.Base.{pick}
 use Rattle.policy.specs.Forms.{both}
 use Rattle.policy.proofs.Laws.Slots.{true-false, both-true}
 use Rattle.refine.specs.Candidates.{Candidate, itself, under}

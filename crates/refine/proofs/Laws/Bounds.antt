@@ -11,7 +11,7 @@ use Rattle.text.specs.Base.{pick}
 use Rattle.policy.specs.Policy.{Value, text, number}
 use Rattle.policy.proofs.Laws.Slots.{true-false}
 use Rattle.refine.specs.Candidates.{Candidate, itself, single, under, upTo, Covers, Under, Least, Lawful}
-use Rattle.refine.specs.Kinds.{boundCovers, joinBounds, bounds}
+use Rattle.refine.specs.Kinds.{joinBounds, bounds}
 
 pub record Order (le : ℕ → ℕ → Bool) : Type 0 where
   pub refl : (a : ℕ) → le a a ≡ true

@@ -1,6 +1,6 @@
 -- Every entry's kind is lawful, wherever it stands (lawful); and the entry as a candidate covers what the decision says
 -- that it matches (whole-meets).
-use mathlib.Core.Path.{_≡_, refl, sym, ap, _∙_, subst}
+use mathlib.Core.Path.{_≡_, refl, ap, _∙_}
 use mathlib.Core.Bool.{Bool, true, false}
 use mathlib.Core.List.{List, [], _∷_, _++_}
 use Prim.Native.Nat.{ℕ, _<_}
@@ -8,19 +8,19 @@ use native.Mathlib.Omega.{arith}
 use lib.Dec.{eqb, leb, ltb}
 use lib.ListN.{length}
 use borrow.Author.Tests.{eqb-true, eqb-false, ltb-true}
-use Rattle.text.specs.Base.{pick}
-use Rattle.policy.specs.Policy.{star, Operator, StringEquals, StringLike, NumericLessThanEquals, Value, text, number}
+use Rattle.policy.specs.Policy.{star, StringEquals, StringLike, NumericLessThanEquals, Value, text, number}
 use Rattle.policy.specs.Forms.{both, all, same}
 use Rattle.policy.proofs.Laws.Slots.{true-false, both-true}
 use Rattle.decision.specs.Matching.{matches}
 use Rattle.refine.specs.Candidates.{Kind, Lawful}
 use Rattle.refine.specs.Beginnings.{begins}
-use Rattle.refine.specs.Kinds.{texts, only, never, bounds}
+use Rattle.refine.specs.Kinds.{texts, never, bounds}
 use Rattle.refine.specs.Entries.{Place, inAction, inResource, inRow, comparison, meetsAt, wildcards, lastOf}
 use Rattle.refine.specs.Entries.{before, isLegal, isPlain, legalText, legalBeginning, wildKind, kindOf}
 use Rattle.refine.proofs.Laws.Bounds.{pick-case, bounds-lawful, upward}
 use Rattle.refine.proofs.Laws.Beginnings.{begins-refl, begins-trans, begins-length}
-use Rattle.refine.proofs.Laws.Texts.{Texts, texts-lawful, only-lawful}
+use Rattle.refine.proofs.Laws.TextsCover.{Texts}
+use Rattle.refine.proofs.Laws.Texts.{texts-lawful, only-lawful}
 use Rattle.refine.proofs.Laws.Wildcards.{star-matches, Final, final-is, several}
 
 -- ---- legal beginnings

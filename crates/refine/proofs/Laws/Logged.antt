@@ -1,12 +1,11 @@
 -- What a record may hold is legal as a single text where it is charged, but for the resource "*", which no text in a
 -- Resource list says.
-use mathlib.Core.Path.{_≡_, refl, sym, ap, _∙_, subst}
+use mathlib.Core.Path.{_≡_, refl, ap, _∙_, subst}
 use mathlib.Core.Bool.{Bool, true, false}
 use mathlib.Core.List.{List, [], _∷_, map}
-use Prim.Native.Nat.{ℕ, _<_}
+use Prim.Native.Nat.{ℕ}
 use native.Mathlib.Omega.{arith}
-use lib.Dec.{eqb, leb}
-use lib.ListN.{length}
+use lib.Dec.{leb}
 use borrow.Author.Tests.{le-leb, ne-eqb}
 use Rattle.text.specs.Base.{within, oneOf}
 use Rattle.text.specs.Written.{Scalar, low, high, Scalars}
@@ -20,7 +19,7 @@ use Rattle.policy.specs.RecordLayout as R
 use Rattle.policy.proofs.Laws.Slots.{true-false, both-true}
 use Rattle.writing.specs.WrittenForm.{bare}
 use Rattle.writing.proofs.Laws.TreeForms.{action-scalars}
-use Rattle.refine.specs.Entries.{Place, inAction, inResource, inRow, isScalar, isPlain, legalText}
+use Rattle.refine.specs.Entries.{inAction, inResource, inRow, isScalar, isPlain, legalText}
 use Rattle.refine.proofs.Laws.Beginnings.{both-is}
 use Rattle.refine.proofs.Laws.Plain.{scalar-below}
 

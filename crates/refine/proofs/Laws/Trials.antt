@@ -2,13 +2,13 @@
 -- both sides of what makes a candidate legal, as one list about the definitions, computed.
 use mathlib.Core.Path.{_≡_, refl}
 use mathlib.Core.Bool.{Bool, true, false}
-use mathlib.Core.List.{List, [], _∷_, _++_, map}
+use mathlib.Core.List.{List, [], _∷_, _++_}
 use Prim.Native.Nat.{ℕ, zero, suc}
 use lib.Dec.{eqb}
-use Rattle.text.specs.Base.{pick, oneOf}
-use Rattle.policy.specs.Policy.{star, any, Operator, StringEquals, StringLike, NumericLessThanEquals, Value, text}
+use Rattle.text.specs.Base.{oneOf}
+use Rattle.policy.specs.Policy.{star, any, StringEquals, StringLike, NumericLessThanEquals, Value, text}
 use Rattle.policy.specs.Policy.{number}
-use Rattle.policy.specs.Forms.{both, either, all, same, isAlphanumeric, isVendorChar, isNameChar, isName}
+use Rattle.policy.specs.Forms.{both, all, same, isAlphanumeric, isVendorChar, isNameChar, isName}
 use Rattle.policy.specs.Forms.{isVendorTail, isVendor, isAction, colons, beginsArn, isArn, isResource}
 use Rattle.decision.specs.Matching.{someEnding, first, matches}
 use Rattle.writing.specs.WrittenForm.{bare}

@@ -1,19 +1,18 @@
 -- What entries match, by their wildcards: without one, one text; with a final star alone, what begins with the text
 -- before it; with any, two texts at least.
-use mathlib.Core.Path.{_≡_, refl, sym, ap, _∙_, subst}
+use mathlib.Core.Path.{_≡_, refl, sym, ap, _∙_}
 use mathlib.Core.Bool.{Bool, true, false}
 use mathlib.Core.List.{List, [], _∷_, _++_}
-use Prim.Native.Nat.{ℕ, zero, suc, _+_, _-_, _≤_, _<_}
+use Prim.Native.Nat.{ℕ, suc, _-_, _<_}
 use native.Mathlib.Omega.{arith}
 use native.Mathlib.Decide.{ℕ-discrete}
 use lib.Dec.{eqb}
-use lib.ListN.{length, getD, take}
+use lib.ListN.{length, take}
 use lib.Seq.{take-suc, take-all}
 use borrow.Author.Tests.{eq-eqb, ne-eqb}
 use Rattle.text.specs.Base.{pick}
 use Rattle.policy.specs.Policy.{star, any}
 use Rattle.policy.specs.Forms.{both, either, same}
-use Rattle.policy.proofs.Laws.Slots.{true-false}
 use Rattle.policy.proofs.Laws.Same.{same-sound}
 use Rattle.decision.specs.Matching.{Matches, over, nothing, further, single, itself, someEnding, first, matches}
 use Rattle.decision.proofs.Laws.Matching.{matches-complete}
