@@ -57,6 +57,7 @@ refined x (single t) = text t
 refined x (under q) = text (q ++ (star ∷ []))
 refined x (upTo n) = number n
 
+-- the form that the layout asks for; an Action's is said of the characters that it is written with
 abbrev pub hasForm : Place → List ℕ → Bool
 hasForm inAction ys = isAction (map bare ys)
 hasForm inResource ys = isResource ys
@@ -65,7 +66,7 @@ hasForm (inRow o) ys = true
 abbrev pub isLegal : Place → List ℕ → Bool
 isLegal p ys = both (hasForm p ys) (leb (length ys) entryCharacters)
 
--- a character that stands for itself
+-- a character; one that stands for itself
 unfoldable pub isScalar : ℕ → Bool
 isScalar c = either (leb c 55295) (within 57344 1114111 c)
 
@@ -74,10 +75,11 @@ isPlain inAction c = pick (oneOf (42 ∷ 63 ∷ []) c) false (isScalar c)
 isPlain inResource c = isScalar c
 isPlain (inRow o) c = isScalar c
 
+-- a single text
 unfoldable pub legalText : Place → List ℕ → Bool
 legalText p t = both (all (isPlain p) t) (isLegal p t)
 
--- the text b made longer
+-- the text b made longer, and then *
 unfoldable pub legalBeginning : Place → List ℕ → List ℕ → Bool
 legalBeginning p b q =
     both (both (begins b q) (ltb (length b) (length q))) (both (all (isPlain p) q) (isLegal p (q ++ (star ∷ []))))
@@ -93,13 +95,13 @@ wildKind p ys =
     (texts (meetsAt p (text ys)) (legalText p) (legalBeginning p (before ys)))
     (texts (meetsAt p (text ys)) (legalText p) never))
 
+-- by how it is compared, the entry being of that type
+abbrev pub kindBy : Operator → Place → Value → Kind
+kindBy StringEquals p x = only (meetsAt p x)
+kindBy StringLike p (text ys) = wildKind p ys
+kindBy StringLike p (number n) = only (meetsAt p (number n))
+kindBy NumericLessThanEquals p (text ys) = only (meetsAt p (text ys))
+kindBy NumericLessThanEquals p (number n) = bounds leb n
+
 abbrev pub kindOf : Place → Value → Kind
-kindOf inAction (text ys) = wildKind inAction ys
-kindOf inAction (number n) = only (meetsAt inAction (number n))
-kindOf inResource (text ys) = wildKind inResource ys
-kindOf inResource (number n) = only (meetsAt inResource (number n))
-kindOf (inRow StringEquals) x = only (meetsAt (inRow StringEquals) x)
-kindOf (inRow StringLike) (text ys) = wildKind (inRow StringLike) ys
-kindOf (inRow StringLike) (number n) = only (meetsAt (inRow StringLike) (number n))
-kindOf (inRow NumericLessThanEquals) (text ys) = only (meetsAt (inRow NumericLessThanEquals) (text ys))
-kindOf (inRow NumericLessThanEquals) (number n) = bounds leb n
+kindOf p x = kindBy (comparison p) p x
