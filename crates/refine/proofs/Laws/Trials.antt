@@ -11,7 +11,7 @@ use Rattle.policy.specs.Policy.{number}
 use Rattle.policy.specs.Forms.{both, all, same, isAlphanumeric, isVendorChar, isNameChar, isName}
 use Rattle.policy.specs.Forms.{isVendorTail, isVendor, isAction, colons, beginsArn, isArn, isResource}
 use Rattle.decision.specs.Matching.{someEnding, first, matches}
-use Rattle.writing.specs.WrittenForm.{bare}
+use Rattle.writing.specs.WrittenForm.{bare, isEscaped, spelling, spelled}
 use Rattle.refine.specs.Candidates.{Candidate, itself, single, under, upTo, Content, empty, holds}
 use Rattle.refine.specs.Candidates.{heldFrom, held}
 use Rattle.refine.specs.Beginnings.{begins, shared, longestUpTo}
@@ -23,6 +23,8 @@ data Trial : Type 0 where
   leaves : Place → Value → List Value → Value → Trial
   -- and whether that matches a value
   meets-then : Place → Value → List Value → Value → Bool → Trial
+  -- and with which characters, where * and ? may be wildcards
+  spelled-then : Place → Value → List Value → Value → Trial
   -- whether it is a candidate of the entry
   has : Place → Value → Candidate → Bool → Trial
 
@@ -42,9 +44,14 @@ ofWritten : (Value → Bool) → Value → Content → Bool
 ofWritten f x empty = false
 ofWritten f x (holds c) = f (refined x c)
 
+spelledValue : Value → Value
+spelledValue (text ys) = text (spelled true ys)
+spelledValue (number n) = number n
+
 passes : Trial → Bool
 passes (leaves p x vs y) = ofWritten (sameValue y) x (held (kindOf p x) vs)
 passes (meets-then p x vs v b) = ofWritten (λ y. alike b (meetsAt p y v)) x (held (kindOf p x) vs)
+passes (spelled-then p x vs y) = ofWritten (λ z. sameValue y (spelledValue z)) x (held (kindOf p x) vs)
 passes (has p x c b) = alike b (kindOf p x .is c)
 
 allPass : List Trial → Bool
@@ -101,6 +108,8 @@ trials =
     (leaves inResource (G (star ∷ [])) (G (110 ∷ []) ∷ G (110 ∷ 49 ∷ []) ∷ []) (G (110 ∷ star ∷ []))) ∷
     (leaves inResource (G (star ∷ [])) (G [] ∷ []) (G [])) ∷
     (leaves inResource (G (star ∷ [])) (G (97 ∷ 42 ∷ 98 ∷ []) ∷ []) (G (97 ∷ 42 ∷ 98 ∷ []))) ∷
+    (spelled-then inResource (G (star ∷ [])) (G (97 ∷ 42 ∷ 98 ∷ []) ∷ [])
+    (G (97 ∷ 36 ∷ 123 ∷ 42 ∷ 125 ∷ 98 ∷ []))) ∷
     (meets-then inResource (G (star ∷ [])) (G (97 ∷ 42 ∷ 98 ∷ []) ∷ []) (G (97 ∷ 88 ∷ 98 ∷ [])) false) ∷
     (meets-then inResource (G (star ∷ [])) (G (97 ∷ 42 ∷ 98 ∷ []) ∷ []) (G (97 ∷ 42 ∷ 98 ∷ [])) true) ∷
     -- T5 and T6: s* is no Action
@@ -158,8 +167,8 @@ trials =
     []
 
 trials-pass : allPass trials ≡ true
-unfolding alike sameValue ofWritten passes allPass bucket G north s3Get getObject getBucketAcl sendMessage every letters
-    atMost trials oneOf all same isAlphanumeric isVendorChar isNameChar isName isVendorTail isVendor isAction colons
-    beginsArn isArn isResource someEnding first matches bare heldFrom begins shared longestUpTo wildcards isScalar
-    legalText legalBeginning wildKind
+unfolding alike sameValue spelledValue ofWritten passes allPass bucket G north s3Get getObject getBucketAcl sendMessage
+    every letters atMost trials oneOf all same isAlphanumeric isVendorChar isNameChar isName isVendorTail isVendor
+    isAction colons beginsArn isArn isResource someEnding first matches bare isEscaped spelling spelled heldFrom begins
+    shared longestUpTo wildcards isScalar legalText legalBeginning wildKind
 trials-pass = refl
