@@ -53,7 +53,7 @@ pub record Lawful (k : Kind) : Type 0 where
   pub least : (v : Value) → Covers k (k .whole) v → Least k (λ w. w ≡ v) (k .least v)
   pub join : (a b : Candidate) → k .is a ≡ true → k .is b ≡ true
       → Least k (λ v. Covers k a v ⊎ Covers k b v) (k .join a b)
-  -- no two candidates cover the same
+  -- candidates that cover the same are one
   pub same : (a b : Candidate) → k .is a ≡ true → k .is b ≡ true → Under k a b → Under k b a → a ≡ b
 
 -- ---- rows

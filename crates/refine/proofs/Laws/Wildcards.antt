@@ -112,7 +112,7 @@ final-is ys w l = record { is = i; plain = p }
 
 -- ---- with any
 
--- c for each wildcard
+-- the entry with c in place of its wildcards
 unfoldable filled : ℕ → List ℕ → List ℕ
 filled c [] = []
 filled c (y ∷ ys) = pick (either (eqb y star) (eqb y any)) c y ∷ filled c ys
