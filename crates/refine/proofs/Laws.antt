@@ -16,3 +16,4 @@ pub mod Operations
 pub mod Comparing
 pub mod Legality
 pub mod Outcomes
+pub mod Forming

@@ -44,7 +44,8 @@ keptTexts xs ns = map textOf (kept (map text xs) ns)
 unfoldable pub keptRows : List Row → List ℕ → List Row
 keptRows [] ns = []
 keptRows (r ∷ rs) ns =
-    record { operator = r .operator; key = r .key; entries = kept (r .entries) ns } ∷ keptRows rs (behind (r .entries) ns)
+    record { operator = r .operator; key = r .key; entries = kept (r .entries) ns } ∷ keptRows rs
+    (behind (r .entries) ns)
 
 -- ---- statements
 

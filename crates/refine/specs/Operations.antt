@@ -60,7 +60,8 @@ pub data Joins (policy room other : List ℕ) : Outcome Done → List ℕ → Ty
   no-other-content : {p : Policy} → isRoom room ≡ true → isRoom other ≡ true → Says policyRules policy (known p)
       → holdsFor p room ≡ true → holdsFor p other ≡ false → Joins policy room other (refused RoomContent) room
   joins : {p : Policy} → isRoom room ≡ true → isRoom other ≡ true → Says policyRules policy (known p)
-      → holdsFor p room ≡ true → holdsFor p other ≡ true → Joins policy room other (known done) (met (slots p) room other)
+      → holdsFor p room ≡ true → holdsFor p other ≡ true → Joins policy room other (known done)
+      (met (slots p) room other)
 
 pub data Finishes (policy room out : List ℕ) : Outcome ℕ → List ℕ → Type 0 where
   no-room : isRoom room ≡ false → Finishes policy room out (refused RoomLength) out

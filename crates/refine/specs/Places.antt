@@ -1,5 +1,14 @@
--- Places as numbers, for the code: 0 Action, an operator's number in a condition, 4 Resource.
-use Prim.Native.Nat.{ℕ}
+-- Places as numbers, for the code, and what it tests of a candidate's characters.
+--   placeNumber p        0 Action, an operator's number in a condition, 4 Resource
+--   formOf p cs          the form of the list p, where characters stand for themselves;  starOf p   a final star there
+--   Starts q a before after   after begins with q and then a, and has the length of before
+use mathlib.Core.Path.{_≡_}
+use mathlib.Core.Bool.{Bool, true}
+use mathlib.Core.List.{List, [], _∷_, _++_}
+use Prim.Native.Nat.{ℕ, suc}
+use lib.ListN.{length, take}
+use Rattle.policy.specs.Policy.{star}
+use Rattle.policy.specs.Forms.{isAction, isResource}
 use Rattle.policy.specs.Held.{operatorNumber}
 use Rattle.refine.specs.Entries.{Place, inAction, inResource, inRow}
 
@@ -7,3 +16,17 @@ abbrev pub placeNumber : Place → ℕ
 placeNumber inAction = 0
 placeNumber inResource = 4
 placeNumber (inRow o) = operatorNumber o
+
+abbrev pub formOf : Place → List ℕ → Bool
+formOf inAction cs = isAction cs
+formOf inResource ys = isResource ys
+formOf (inRow o) ys = true
+
+abbrev pub starOf : Place → ℕ
+starOf inAction = 42
+starOf inResource = star
+starOf (inRow o) = star
+
+pub record Starts (q : List ℕ) (a : ℕ) (before after : List ℕ) : Type 0 where
+  pub size : length after ≡ length before
+  pub is : take (suc (length q)) after ≡ q ++ (a ∷ [])

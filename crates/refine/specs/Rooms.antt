@@ -114,4 +114,5 @@ rowMet s xs ys = row (joined (slotKind s) (contentOf xs) (contentOf ys))
 
 unfoldable pub met : List Slot → List ℕ → List ℕ → List ℕ
 met [] xs ys = xs
-met (s ∷ ss) xs ys = rowMet s (take rowNumbers xs) (take rowNumbers ys) ++ met ss (drop rowNumbers xs) (drop rowNumbers ys)
+met (s ∷ ss) xs ys = rowMet s (take rowNumbers xs) (take rowNumbers ys) ++ met ss (drop rowNumbers xs)
+    (drop rowNumbers ys)

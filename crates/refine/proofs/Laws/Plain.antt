@@ -53,6 +53,12 @@ plain-scalar inAction c e = own c e .scalar
 plain-scalar inResource c e = e
 plain-scalar (inRow o) c e = e
 
+pub plain-bare : (p : Place) (c : ℕ) → isPlain p c ≡ true → bare c ≡ c
+unfolding bare
+plain-bare p c e =
+    let s = scalar-below (scalar-inv c (plain-scalar p c e)) in
+    rw (ne-eqb c star (λ i. omega arith), ne-eqb c any (λ i. omega arith)) refl
+
 -- the symbols of a candidate: plain, or the star
 pub data Sign (p : Place) : ℕ → Type 0 where
   plainly : {c : ℕ} → isPlain p c ≡ true → Sign p c

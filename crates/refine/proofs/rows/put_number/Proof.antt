@@ -39,7 +39,8 @@ slice-write-row-3 c =
     omega (
       arith,
       filled-length (filled-next 1 (start .args .n / 4294967296)
-          (filled-next 0 (start .args .mark) (filled-none (start .pre) (at-clear .clear .ensures)) refl (omega arith)) refl
+          (filled-next 0 (start .args .mark) (filled-none (start .pre) (at-clear .clear .ensures)) refl (omega arith))
+          refl
           (omega arith)) (omega arith),
     )
 
