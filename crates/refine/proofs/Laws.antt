@@ -17,3 +17,4 @@ pub mod Comparing
 pub mod Legality
 pub mod Outcomes
 pub mod Forming
+pub mod Counting
