@@ -18,3 +18,6 @@ pub mod Legality
 pub mod Outcomes
 pub mod Forming
 pub mod Counting
+pub mod Fitting
+pub mod FittingWild
+pub mod FittingText

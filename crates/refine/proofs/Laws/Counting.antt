@@ -112,3 +112,9 @@ module _ (ys : List ℕ) {n : ℕ} (e : n ≡ wildcards ys) where
 
       pub wild-inside : (lastOf ys ≡ star → ⊥) → 2 ≡ wildNumber ys
       wild-inside l = sym (single ∙ ap (kinds false) (ne-eqb (lastOf ys) star l))
+
+-- an entry with a final star has a symbol
+pub final-some : (ys : List ℕ) → wildNumber ys ≡ 1 → 0 < length ys
+unfolding wildNumber wildcards
+final-some [] e = absurd (omega (arith, e))
+final-some (y ∷ ys) e = omega arith

@@ -66,11 +66,11 @@ star-other (inRow o) s = refl
 
 -- ---- tests one behind the other
 
-both-no : (t : Bool) → both t false ≡ false
+pub both-no : (t : Bool) → both t false ≡ false
 both-no true = refl
 both-no false = refl
 
-both-yes : (t : Bool) → both t true ≡ t
+pub both-yes : (t : Bool) → both t true ≡ t
 both-yes true = refl
 both-yes false = refl
 

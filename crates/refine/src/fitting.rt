@@ -1,0 +1,84 @@
+// Whether a row holds what its entry can have: of an entry that is matched by wildcards.
+ghost use mathlib.Core.Path.{_≡_};
+ghost use mathlib.Core.List.{List};
+ghost use lib.ListN.{length, getD, drop};
+ghost use Prim.Native.Nat.{ℕ, _≤_};
+ghost use Rattle.policy.specs.Policy.{StringLike};
+ghost use Rattle.refine.specs.Entries.{Place, comparison, wildKind};
+ghost use Rattle.refine.specs.Places.{placeNumber};
+ghost use Rattle.refine.specs.Rows.{rowNumbers, isZero, isRow};
+use crate::kinds;
+use crate::legality;
+use crate::rows;
+use decision::matching;
+
+// Is a row zero from a place on?
+fn is_zero_from(row: &[u32], from: usize) -> bool
+    requires { ⌜ from ≤ length (now row) ⌝ }
+    ensures { λ r. ⌜ r ≡ isZero (drop from (now (row .entry))) ⌝ }
+{
+    let to = row.len();
+    rows::is_zero(&row[from..to])
+}
+
+// A row that holds a single text.
+fn fits_single(place: u32, ys: &[u32], row: &[u32]) -> bool
+    requires { ⌜ length (now row) ≡ rowNumbers ⌝ }
+    ensures { λ r. ⌜ ((p : Place) → place ≡ placeNumber p → comparison p ≡ StringLike → getD (now (row .entry)) 0 0 ≡ 2 → r ≡ isRow (wildKind p (now (ys .entry))) (now (row .entry))) ⌝ }
+{
+    let n = row[1] as usize;
+    if n > 254 {
+        return false;
+    }
+    let to = n + 2;
+    if !is_zero_from(row, to) {
+        return false;
+    }
+    if kinds::wild(ys) == 0 {
+        return false;
+    }
+    if !matching::matches(ys, &row[2..to]) {
+        return false;
+    }
+    legality::legal_text(place, &row[2..to])
+}
+
+// A row that holds a beginning.
+fn fits_beginning(place: u32, ys: &[u32], row: &[u32]) -> bool
+    requires { ⌜ length (now row) ≡ rowNumbers ⌝ }
+    ensures { λ r. ⌜ ((p : Place) → place ≡ placeNumber p → getD (now (row .entry)) 0 0 ≡ 3 → r ≡ isRow (wildKind p (now (ys .entry))) (now (row .entry))) ⌝ }
+{
+    let n = row[1] as usize;
+    if n > 254 {
+        return false;
+    }
+    let to = n + 2;
+    if !is_zero_from(row, to) {
+        return false;
+    }
+    if kinds::wild(ys) != 1 {
+        return false;
+    }
+    let last = ys.len() - 1;
+    legality::legal_beginning(place, &ys[0..last], &row[2..to])
+}
+
+// Can the entry ys at a place have this row?
+pub fn fits_wild(place: u32, ys: &[u32], row: &[u32]) -> bool
+    requires { ⌜ length (now row) ≡ rowNumbers ⌝ }
+    ensures { λ r. ⌜ ((p : Place) → place ≡ placeNumber p → comparison p ≡ StringLike → r ≡ isRow (wildKind p (now (ys .entry))) (now (row .entry))) ⌝ }
+{
+    if row[0] == 0 {
+        return rows::is_zero(row);
+    }
+    if row[0] == 1 {
+        return is_zero_from(row, 1);
+    }
+    if row[0] == 2 {
+        return fits_single(place, ys, row);
+    }
+    if row[0] == 3 {
+        return fits_beginning(place, ys, row);
+    }
+    false
+}
