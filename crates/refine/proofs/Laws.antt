@@ -21,3 +21,4 @@ pub mod Counting
 pub mod Fitting
 pub mod FittingWild
 pub mod FittingText
+pub mod FittingBound

@@ -1,16 +1,19 @@
-// Whether a row holds what its entry can have: of an entry that is matched by wildcards.
+// Whether a row holds what its entry can have.
 ghost use mathlib.Core.Path.{_≡_};
-ghost use mathlib.Core.List.{List};
 ghost use lib.ListN.{length, getD, drop};
-ghost use Prim.Native.Nat.{ℕ, _≤_};
-ghost use Rattle.policy.specs.Policy.{StringLike};
+ghost use Prim.Native.Nat.{_+_, _*_, _≤_};
+ghost use mathlib.Core.Bool.{Bool};
+ghost use Rattle.policy.specs.Policy.{StringLike, Value};
+ghost use lib.Dec.{leb};
+ghost use Rattle.refine.specs.Kinds.{only, bounds};
 ghost use Rattle.refine.specs.Entries.{Place, comparison, wildKind};
 ghost use Rattle.refine.specs.Places.{placeNumber};
-ghost use Rattle.refine.specs.Rows.{rowNumbers, isZero, isRow};
+ghost use Rattle.refine.specs.Rows.{rowNumbers, isZero, numberIn, isRow};
 use crate::kinds;
 use crate::legality;
 use crate::rows;
 use decision::matching;
+use policy::limits;
 
 // Is a row zero from a place on?
 fn is_zero_from(row: &[u32], from: usize) -> bool
@@ -81,4 +84,49 @@ pub fn fits_wild(place: u32, ys: &[u32], row: &[u32]) -> bool
         return fits_beginning(place, ys, row);
     }
     false
+}
+
+// Can an entry that is compared with a text have this row: nothing, or the entry itself?
+pub fn fits_only(row: &[u32]) -> bool
+    requires { ⌜ length (now row) ≡ rowNumbers ⌝ }
+    ensures { λ r. ⌜ ((m : Value → Bool) → r ≡ isRow (only m) (now (row .entry))) ⌝ }
+{
+    if row[0] == 0 {
+        return rows::is_zero(row);
+    }
+    if row[0] == 1 {
+        return is_zero_from(row, 1);
+    }
+    false
+}
+
+fn whole(upper: u32, lower: u32) -> u64
+    ensures { λ r. ⌜ r ≡ upper * 4294967296 + lower ⌝ }
+{
+    upper as u64 * limits::HALF + lower as u64
+}
+
+// The number that a row holds by its halves.
+fn number_in(row: &[u32]) -> u64
+    requires { ⌜ length (now row) ≡ rowNumbers ⌝ }
+    ensures { λ r. ⌜ r ≡ numberIn (now (row .entry)) ⌝ }
+{
+    whole(row[1], row[2])
+}
+
+// Can an entry that bounds by n have this row?
+pub fn fits_bound(n: u64, row: &[u32]) -> bool
+    requires { ⌜ length (now row) ≡ rowNumbers ⌝ }
+    ensures { λ r. ⌜ r ≡ isRow (bounds leb n) (now (row .entry)) ⌝ }
+{
+    if row[0] == 0 {
+        return rows::is_zero(row);
+    }
+    if row[0] != 4 {
+        return false;
+    }
+    if !is_zero_from(row, 3) {
+        return false;
+    }
+    number_in(row) <= n
 }

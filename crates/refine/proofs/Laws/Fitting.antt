@@ -70,7 +70,7 @@ module _ (k : Kind) (xs : List ℕ) (size : length xs ≡ rowNumbers) where
       let c : contentOf xs ≡ empty = rw (eq-eqb mark 0 e) refl in
       sym (known empty c ∙ padded-same [] xs size (omega arith))
 
-  begins-mark : (m : ℕ) (zs : List ℕ) → mark ≡ m → begins (m ∷ zs) xs ≡ begins zs (drop 1 xs)
+  pub begins-mark : (m : ℕ) (zs : List ℕ) → mark ≡ m → begins (m ∷ zs) xs ≡ begins zs (drop 1 xs)
   unfolding begins
   begins-mark m zs e =
       ap (begins (m ∷ zs)) (drop-next xs 0 (omega (arith, size)))
@@ -79,7 +79,7 @@ module _ (k : Kind) (xs : List ℕ) (size : length xs ≡ rowNumbers) where
   abbrev held-itself : Content
   held-itself = holds itself
 
-  itself-is : mark ≡ 1 → contentOf xs ≡ held-itself
+  pub itself-is : mark ≡ 1 → contentOf xs ≡ held-itself
   unfolding contentOf
   itself-is e = rw (ne-eqb mark 0 (λ z. omega (arith, e, z)), eq-eqb mark 1 e) refl
 

@@ -4,6 +4,7 @@ use mathlib.Core.Bool.{Bool, true, false}
 use mathlib.Core.List.{List, []}
 use Prim.Native.Nat.{ℕ, suc, _+_, _-_, _≤_, _<_}
 use native.Mathlib.Omega.{arith}
+use native.Mathlib.Decide.{ℕ-discrete}
 use lib.Dec.{eqb}
 use lib.ListN.{length, getD, take, drop, length-drop}
 use lib.Seq.{take-all}
@@ -20,7 +21,7 @@ use Rattle.refine.specs.Entries.{wildKind}
 use Rattle.refine.specs.Places.{wildNumber}
 use Rattle.refine.specs.Rows.{rowNumbers, row, isZero, contentOf, isRow, numberIn, textIn}
 use Rattle.refine.proofs.Laws.Forming.{both-no}
-use Rattle.refine.proofs.Laws.Fitting.{known}
+use Rattle.refine.proofs.Laws.Fitting.{known, single-is, under-is}
 
 pub part-zero : (xs : List ℕ) (n : ℕ) → isZero (take (length xs - n) (drop n xs)) ≡ isZero (drop n xs)
 part-zero xs n = ap isZero (take-all (length xs - n) (drop n xs) (omega (arith, length-drop n xs)))
@@ -125,3 +126,24 @@ module _ (p : Place) (ys : List ℕ) where
       where
         number-held : contentOf xs ≡ holds (upTo (numberIn xs))
         number-held = rw (ne-eqb mark 0 a, ne-eqb mark 1 b, ne-eqb mark 2 c, ne-eqb mark 3 d) refl
+
+-- ---- an entry that is compared
+
+module _ (m : Value → Bool) (xs : List ℕ) (size : length xs ≡ rowNumbers) where
+  not-among : (c : Candidate) → only m .is c ≡ false → contentOf xs ≡ holds c → false ≡ isRow (only m) xs
+  not-among c e h =
+      sym (known (only m) xs size (holds c) h ∙ ap (λ (t : Bool). both t (same (row (holds c)) xs)) e)
+
+  pub only-not : (getD xs 0 0 ≡ 0 → ⊥) → (getD xs 0 0 ≡ 1 → ⊥) → false ≡ isRow (only m) xs
+  unfolding contentOf
+  only-not a b = by (ℕ-discrete mark 2) (ℕ-discrete mark 3)
+    where
+      mark : ℕ
+      mark = getD xs 0 0
+
+      by : Dec (mark ≡ 2) → Dec (mark ≡ 3) → false ≡ isRow (only m) xs
+      by (yes c) d = not-among (single (textIn xs)) (both-no (m (text (textIn xs)))) (single-is xs c)
+      by (no c) (yes d) = not-among (under (textIn xs)) refl (under-is xs d)
+      by (no c) (no d) =
+          not-among (upTo (numberIn xs)) refl
+          (rw (ne-eqb mark 0 a, ne-eqb mark 1 b, ne-eqb mark 2 c, ne-eqb mark 3 d) refl)
