@@ -1,5 +1,5 @@
--- Operations: what Feed, Join, Finish and Fresh answer and leave, for all bytes and numbers: document 01, "What is bought",
--- with the refusals in their order; what was lent stays as it was where one is given.
+-- Operations: what Feed, Join, Finish and Fresh answer and leave, for all bytes and numbers: document 01, "What is
+-- bought", with the refusals in their order; what was lent stays as it was where one is given.
 --   Feeds p r room x after       the policy text p, the record r and the room come to x, and the room to after
 --   Joins p room other x after   the same of two rooms, of which the other is only read
 --   Finishes p room out x after  the same of an output, which takes the refined policy

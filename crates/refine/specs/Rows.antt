@@ -1,7 +1,7 @@
 -- Rows: the 256 numbers of a row, for each content one encoding; document 01 leaves it to the builder.
 --   padded xs       the numbers xs, and zeros up to a row's length; of none it is the empty row
---   row c           what stands first tells the content: 0 empty, 1 the entry itself, 2 a single text, 3 a beginning, 4 a
---                   number; a text stands behind its length, a number is parted in halves
+--   row c           what stands first tells the content: 0 empty, 1 the entry itself, 2 a single text, 3 a beginning,
+--                   4 a number; a text stands behind its length, a number is parted in halves
 --   contentOf xs    the content of the numbers xs, if they are a row
 --   isRow k xs      xs is a row that an entry of kind k can have: empty, or a candidate, in the one encoding
 -- Pinned by: Laws/Encoding (`row` is one to one, and `isRow` is exactly that).
