@@ -22,3 +22,4 @@ pub mod Fitting
 pub mod FittingWild
 pub mod FittingText
 pub mod FittingBound
+pub mod Charging

@@ -1,0 +1,27 @@
+// What a row comes to hold.
+ghost use mathlib.Core.Path.{_≡_};
+ghost use lib.ListN.{length};
+ghost use Prim.Native.Nat.{_≤_};
+ghost use Rattle.refine.specs.Candidates.{holds};
+ghost use Rattle.refine.specs.Beginnings.{longest};
+ghost use Rattle.refine.specs.Entries.{Place, legalBeginning};
+ghost use Rattle.refine.specs.Places.{placeNumber};
+ghost use Rattle.refine.specs.Rows.{rowNumbers, textCharacters, row};
+use crate::legality;
+use crate::rows;
+
+// The longest beginning of t that is legal and longer than b, with its star; or the entry itself.
+pub fn put_longest(place: u32, b: &[u32], t: &[u32], out: &mut [u32])
+    requires { ⌜ (length (now out) ≡ rowNumbers) × (length (now t) ≤ textCharacters) ⌝ }
+    ensures { λ r. ⌜ ((p : Place) → place ≡ placeNumber p → now (out .exit) ≡ row (holds (longest (legalBeginning p (now (b .entry))) (now (t .entry))))) ⌝ }
+{
+    let mut n = t.len();
+    while n > 0 {
+        if legality::legal_beginning(place, b, &t[0..n]) {
+            rows::put_text(out, 3, &t[0..n]);
+            return;
+        }
+        n = n - 1;
+    }
+    rows::put_mark(out, 1);
+}
