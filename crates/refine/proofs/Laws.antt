@@ -23,3 +23,4 @@ pub mod FittingWild
 pub mod FittingText
 pub mod FittingBound
 pub mod Charging
+pub mod ChargingLeast

@@ -2,11 +2,13 @@
 ghost use mathlib.Core.Path.{_≡_};
 ghost use lib.ListN.{length};
 ghost use Prim.Native.Nat.{_≤_};
+ghost use Rattle.policy.specs.Policy.{text};
 ghost use Rattle.refine.specs.Candidates.{holds};
 ghost use Rattle.refine.specs.Beginnings.{longest};
-ghost use Rattle.refine.specs.Entries.{Place, legalBeginning};
+ghost use Rattle.refine.specs.Entries.{Place, legalBeginning, wildKind};
 ghost use Rattle.refine.specs.Places.{placeNumber};
 ghost use Rattle.refine.specs.Rows.{rowNumbers, textCharacters, row};
+use crate::kinds;
 use crate::legality;
 use crate::rows;
 
@@ -24,4 +26,26 @@ pub fn put_longest(place: u32, b: &[u32], t: &[u32], out: &mut [u32])
         n = n - 1;
     }
     rows::put_mark(out, 1);
+}
+
+// What one text generalises to, for an entry that is matched by its wildcards.
+pub fn put_least(place: u32, ys: &[u32], v: &[u32], out: &mut [u32])
+    requires { ⌜ (length (now out) ≡ rowNumbers) × (length (now v) ≤ textCharacters) ⌝ }
+    ensures { λ r. ⌜ ((p : Place) → place ≡ placeNumber p → now (out .exit) ≡ row (holds (wildKind p (now (ys .entry)) .least (text (now (v .entry)))))) ⌝ }
+{
+    let w = kinds::wild(ys);
+    if w == 0 {
+        rows::put_mark(out, 1);
+        return;
+    }
+    if legality::legal_text(place, v) {
+        rows::put_text(out, 2, v);
+        return;
+    }
+    if w != 1 {
+        rows::put_mark(out, 1);
+        return;
+    }
+    let last = ys.len() - 1;
+    put_longest(place, &ys[0..last], v, out);
 }

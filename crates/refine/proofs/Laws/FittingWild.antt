@@ -31,24 +31,24 @@ module _ (p : Place) (ys : List ℕ) where
   m v = meetsAt p (text ys) v
 
   -- the kind, by the two tests that give its number
-  abbrev byTests : Bool → Bool → Kind
+  abbrev pub byTests : Bool → Bool → Kind
   byTests a b = pick a (only m) (pick b (texts m (legalText p) (legalBeginning p (before ys)))
       (texts m (legalText p) never))
 
-  abbrev number : Bool → Bool → ℕ
+  abbrev pub number : Bool → Bool → ℕ
   number a b = pick a 0 (pick b 1 2)
 
-  abbrev noWildcard : Bool
+  abbrev pub noWildcard : Bool
   noWildcard = eqb (wildcards ys) 0
 
-  abbrev finalStar : Bool
+  abbrev pub finalStar : Bool
   finalStar = both (eqb (wildcards ys) 1) (eqb (lastOf ys) star)
 
-  kind-is : wildKind p ys ≡ byTests noWildcard finalStar
+  pub kind-is : wildKind p ys ≡ byTests noWildcard finalStar
   unfolding wildKind
   kind-is = refl
 
-  number-is : wildNumber ys ≡ number noWildcard finalStar
+  pub number-is : wildNumber ys ≡ number noWildcard finalStar
   unfolding wildNumber
   number-is = refl
 
