@@ -10,8 +10,8 @@ use policy::reading;
 use policy::reading::Read;
 use policy::refusals;
 
-// A refusal's number and its place; or 0, 0, and how many numbers of the run hold what was read, or how many bytes of the
-// output were written.
+// A refusal's number and its place; or 0, 0, and how many numbers of the run hold what was read, or how many bytes of
+// the output were written.
 #[repr(C)]
 pub struct Told {
     pub refusal: u64,
@@ -19,8 +19,8 @@ pub struct Told {
     pub count: usize,
 }
 
-// A refusal's number and its place; or 0, 0, and a decision: 1 allowed, 2 explicitly denied, 3 implicitly denied, with the
-// statement that decides, counted from 1, and 0 where none does.
+// A refusal's number and its place; or 0, 0, and a decision: 1 allowed, 2 explicitly denied, 3 implicitly denied, with
+// the statement that decides, counted from 1, and 0 where none does.
 #[repr(C)]
 pub struct Judged {
     pub refusal: u64,
