@@ -24,3 +24,5 @@ pub mod FittingText
 pub mod FittingBound
 pub mod Charging
 pub mod ChargingLeast
+pub mod Joining
+pub mod JoiningWild

@@ -5,6 +5,7 @@ pub mod Kinds
 pub mod Entries
 pub mod Places
 pub mod Rows
+pub mod Joining
 pub mod Rooms
 pub mod Finishing
 pub mod Operations

@@ -2,6 +2,7 @@
 pub mod beginnings;
 pub mod charging;
 pub mod fitting;
+pub mod joining;
 pub mod kinds;
 pub mod legality;
 pub mod operations;

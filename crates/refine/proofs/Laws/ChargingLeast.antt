@@ -16,12 +16,12 @@ use Rattle.refine.specs.Rows.{padded, row}
 use Rattle.refine.proofs.Laws.Fitting.{single-row}
 use Rattle.refine.proofs.Laws.FittingWild.{byTests, number, noWildcard, finalStar, kind-is, number-is}
 
-longest-never : (n : ℕ) (t : List ℕ) → longestUpTo never n t ≡ itself
+pub longest-never : (n : ℕ) (t : List ℕ) → longestUpTo never n t ≡ itself
 unfolding longestUpTo
 longest-never zero t = refl
 longest-never (suc n) t = longest-never n t
 
-mark-row : row (holds itself) ≡ padded (1 ∷ [])
+pub mark-row : row (holds itself) ≡ padded (1 ∷ [])
 unfolding row
 mark-row = refl
 

@@ -47,7 +47,7 @@ filled-next {row} {xs} i a w e h =
       is = ap (λ (l : List ℕ). set l i a) (w .is) ∙ ap (λ (k : ℕ). set (padded xs) k a) e ∙ padded-set xs a h;
     }
 
-padded-length : (xs : List ℕ) → length xs ≤ rowNumbers → length (padded xs) ≡ rowNumbers
+pub padded-length : (xs : List ℕ) → length xs ≤ rowNumbers → length (padded xs) ≡ rowNumbers
 unfolding padded
 padded-length xs h =
     let n = rowNumbers - length xs in
