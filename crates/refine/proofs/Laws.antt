@@ -26,3 +26,5 @@ pub mod Charging
 pub mod ChargingLeast
 pub mod Joining
 pub mod JoiningWild
+pub mod JoiningLeast
+pub mod Bounding

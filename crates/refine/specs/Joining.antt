@@ -1,11 +1,11 @@
--- Joining: rows that hold no number, for the code that joins them.
+-- Joining: rows that hold texts, and rows that hold numbers, for the code that joins them.
 --   Textual c         a content without a number, its text of a row's size;  contentText c   its text, none for an entry
---   Texted xs         the numbers xs are the row of such a content
+--   Texted xs         the numbers xs are the row of such a content;  Numeric c, Numbered xs   the same of numbers
 use mathlib.Core.Path.{_≡_}
 use mathlib.Core.List.{List, []}
 use Prim.Native.Nat.{ℕ, _≤_}
 use lib.ListN.{length}
-use Rattle.refine.specs.Candidates.{Candidate, itself, single, under, Content, empty, holds}
+use Rattle.refine.specs.Candidates.{Candidate, itself, single, under, upTo, Content, empty, holds}
 use Rattle.refine.specs.Kinds.{textOf}
 use Rattle.refine.specs.Rows.{textCharacters, row}
 
@@ -22,4 +22,16 @@ contentText (holds c) = textOf c
 pub record Texted (xs : List ℕ) : Type 0 where
   pub content : Content
   pub textual : Textual content
+  pub is : xs ≡ row content
+
+-- ---- numbers
+
+-- a content that is a number's
+pub data Numeric : Content → Type 0 where
+  no-number : Numeric empty
+  one-number : {n : ℕ} → Numeric (holds (upTo n))
+
+pub record Numbered (xs : List ℕ) : Type 0 where
+  pub content : Content
+  pub numeric : Numeric content
   pub is : xs ≡ row content

@@ -1,5 +1,5 @@
 -- Places as numbers, for the code, and what it tests of a candidate's characters.
---   placeNumber p        0 Action, an operator's number in a condition, 4 Resource
+--   placeNumber p        0 Action, an operator's number in a condition, 4 Resource;  Placed n   n is such a number
 --   formOf p cs          the form of the list p, where characters stand for themselves;  starOf p   a final star there
 --   wildNumber ys        0 no wildcard, 1 one, a final *, 2 others
 --   Starts q a before after   after begins with q and then a, and has the length of before
@@ -19,6 +19,10 @@ abbrev pub placeNumber : Place → ℕ
 placeNumber inAction = 0
 placeNumber inResource = 4
 placeNumber (inRow o) = operatorNumber o
+
+pub record Placed (n : ℕ) : Type 0 where
+  pub place : Place
+  pub is : n ≡ placeNumber place
 
 abbrev pub formOf : Place → List ℕ → Bool
 formOf inAction cs = isAction cs

@@ -107,7 +107,7 @@ fn whole(upper: u32, lower: u32) -> u64
 }
 
 // The number that a row holds by its halves.
-fn number_in(row: &[u32]) -> u64
+pub fn number_in(row: &[u32]) -> u64
     requires { ⌜ length (now row) ≡ rowNumbers ⌝ }
     ensures { λ r. ⌜ r ≡ numberIn (now (row .entry)) ⌝ }
 {

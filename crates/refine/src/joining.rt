@@ -2,12 +2,14 @@
 ghost use mathlib.Core.Path.{_≡_};
 ghost use lib.Dec.{eqb};
 ghost use lib.ListN.{length, getD};
+ghost use Prim.Native.Nat.{_≤_};
 ghost use Rattle.policy.specs.Forms.{both, same};
-ghost use Rattle.refine.specs.Candidates.{Content, holds, joined};
+ghost use Rattle.policy.specs.Policy.{text};
+ghost use Rattle.refine.specs.Candidates.{Content, holds, joined, charged};
 ghost use Rattle.refine.specs.Beginnings.{shared, longest};
 ghost use Rattle.refine.specs.Entries.{Place, legalBeginning, wildKind};
-ghost use Rattle.refine.specs.Places.{placeNumber};
-ghost use Rattle.refine.specs.Rows.{row};
+ghost use Rattle.refine.specs.Places.{placeNumber, Placed};
+ghost use Rattle.refine.specs.Rows.{textCharacters, row};
 ghost use Rattle.refine.specs.Joining.{Textual, contentText, Texted};
 use crate::beginnings;
 use crate::charging;
@@ -73,4 +75,14 @@ pub fn join_wild(place: u32, ys: &[u32], out: &mut [u32], other: &[u32])
     }
     let last = ys.len() - 1;
     put_shared(place, &ys[0..last], out, other);
+}
+
+// A text charged to the row of an entry that is matched by its wildcards.
+pub fn charge_wild(place: u32, ys: &[u32], v: &[u32], out: &mut [u32])
+    requires { ⌜ (Placed place) × (length (now v) ≤ textCharacters) × (Texted (now out)) ⌝ }
+    ensures { λ r. ⌜ ((p : Place) (c : Content) → place ≡ placeNumber p → Textual c → now (out .entry) ≡ row c → now (out .exit) ≡ row (charged (wildKind p (now (ys .entry))) c (text (now (v .entry))))) ⌝ }
+{
+    let mut least = [0u32; 256];
+    charging::put_least(place, ys, v, &mut least);
+    join_wild(place, ys, out, &least);
 }

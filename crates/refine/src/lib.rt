@@ -1,5 +1,6 @@
 // Rooms of logs: candidates of entries, the rows that hold them, and the operations on rooms.
 pub mod beginnings;
+pub mod bounding;
 pub mod charging;
 pub mod fitting;
 pub mod joining;
