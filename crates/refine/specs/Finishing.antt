@@ -1,7 +1,7 @@
 -- Finishing: document 01, "Charging and candidates", what Finish writes: the policy with each Allow entry refined to
 -- what its row holds.
---   kept xs ns             the entries whose rows hold something, refined; ns are the numbers of their rows and of those
---                          behind
+--   kept xs ns             the entries whose rows hold something, refined; ns are the numbers of their rows and of
+--                          those behind
 --   refinedPolicy p room   empty Allow entries are dropped, an Allow statement is written if every one of its lists has
 --                          an entry left, a Deny statement whole; nothing is merged or reordered
 --   hasAllow p             an Allow statement is written; where none is, 10 is given

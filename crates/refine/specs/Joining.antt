@@ -1,5 +1,6 @@
 -- Joining: rows that hold texts, and rows that hold numbers, for the code that joins them.
---   Textual c         a content without a number, its text of a row's size;  contentText c   its text, none for an entry
+--   Textual c         a content without a number, its text of a row's size;  contentText c   its text, none for an
+--                     entry
 --   Texted xs         the numbers xs are the row of such a content;  Numeric c, Numbered xs   the same of numbers
 use mathlib.Core.Path.{_≡_}
 use mathlib.Core.List.{List, []}
