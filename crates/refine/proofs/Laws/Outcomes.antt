@@ -1,5 +1,6 @@
--- Every operation comes to an outcome, for all bytes and numbers; and a refused Feed or Join leaves the room as it was.
-use mathlib.Core.Path.{_≡_, refl, sym}
+-- Every operation comes to an outcome, for all bytes and numbers; and where it refuses, the room, or Finish's output, is
+-- as it was.
+use mathlib.Core.Path.{_≡_, refl, sym, ap, _∙_}
 use mathlib.Core.Bool.{Bool, true, false}
 use mathlib.Core.List.{List}
 use Prim.Native.Nat.{ℕ}
@@ -13,6 +14,7 @@ use Rattle.decision.specs.Decision.{decide}
 use Rattle.decision.specs.declared.deciding.Decision.{Decision}
 use Rattle.writing.specs.WrittenForm.{writtenPolicy}
 use Rattle.writing.specs.Operations.{handed}
+use Rattle.writing.proofs.Laws.Operations.{handed-kept}
 use Rattle.refine.specs.Rooms.{slots, charges, fed, met}
 use Rattle.refine.specs.Finishing.{refinedPolicy, hasAllow}
 use Rattle.refine.specs.Operations.{isRoom, holdsFor, Done, done}
@@ -140,3 +142,17 @@ join-kept f (O.joins e g a n m) q = never q
 pub join-keeps :
     (policy room other after : List ℕ) (f : Refusal) → O.Joins policy room other (refused f) after → after ≡ room
 join-keeps policy room other after f a = join-kept f a refl
+
+finish-kept :
+    {policy room out after : List ℕ} {x : Outcome ℕ} (f : Refusal) → O.Finishes policy room out x after
+    → x ≡ refused f → after ≡ out
+finish-kept f (O.no-room e) q = refl
+finish-kept f (O.no-policy e a) q = refl
+finish-kept f (O.no-content e a n) q = refl
+finish-kept f (O.no-allow e a n m) q = refl
+finish-kept {room = room} {out = out} {after = after} f (O.finishes {p} e a n m g) q =
+    handed-kept (writtenPolicy (refinedPolicy p room)) out (ap (λ (y : Outcome ℕ). (y, after)) (sym q) ∙ g)
+
+pub finish-keeps :
+    (policy room out after : List ℕ) (f : Refusal) → O.Finishes policy room out (refused f) after → after ≡ out
+finish-keeps policy room out after f a = finish-kept f a refl

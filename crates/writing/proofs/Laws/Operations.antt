@@ -74,7 +74,7 @@ record Whole (bs out : List ℕ) (n : ℕ) (after : List ℕ) : Type 0 where
   is : take n after ≡ bs
 
 module _ (bs out : List ℕ) where
-  handed-kept :
+  pub handed-kept :
       {f : Refusal} {after : List ℕ} → _≡_ {A = Outcome ℕ × List ℕ} (refused f, after) (handed bs out) → after ≡ out
   handed-kept {f} {after} e = by (decLt resultBytes (length bs)) (decLt (length out) (length bs))
     where
