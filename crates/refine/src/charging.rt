@@ -20,12 +20,12 @@ pub fn put_longest(place: u32, b: &[u32], t: &[u32], out: &mut [u32])
     let mut n = t.len();
     while n > 0 {
         if legality::legal_beginning(place, b, &t[0..n]) {
-            rows::put_text(out, 3, &t[0..n]);
+            rows::put_text(out, rows::BEGINNING, &t[0..n]);
             return;
         }
         n = n - 1;
     }
-    rows::put_mark(out, 1);
+    rows::put_mark(out, rows::ITSELF);
 }
 
 // What one text generalises to, for an entry that is matched by its wildcards.
@@ -35,15 +35,15 @@ pub fn put_least(place: u32, ys: &[u32], v: &[u32], out: &mut [u32])
 {
     let w = kinds::wild(ys);
     if w == 0 {
-        rows::put_mark(out, 1);
+        rows::put_mark(out, rows::ITSELF);
         return;
     }
     if legality::legal_text(place, v) {
-        rows::put_text(out, 2, v);
+        rows::put_text(out, rows::SINGLE, v);
         return;
     }
     if w != 1 {
-        rows::put_mark(out, 1);
+        rows::put_mark(out, rows::ITSELF);
         return;
     }
     let last = ys.len() - 1;

@@ -30,7 +30,7 @@ fn fits_single(place: u32, ys: &[u32], row: &[u32]) -> bool
     ensures { λ r. ⌜ ((p : Place) → place ≡ placeNumber p → comparison p ≡ StringLike → getD (now (row .entry)) 0 0 ≡ 2 → r ≡ isRow (wildKind p (now (ys .entry))) (now (row .entry))) ⌝ }
 {
     let n = row[1] as usize;
-    if n > 254 {
+    if n > limits::ENTRY {
         return false;
     }
     let to = n + 2;
@@ -52,7 +52,7 @@ fn fits_beginning(place: u32, ys: &[u32], row: &[u32]) -> bool
     ensures { λ r. ⌜ ((p : Place) → place ≡ placeNumber p → getD (now (row .entry)) 0 0 ≡ 3 → r ≡ isRow (wildKind p (now (ys .entry))) (now (row .entry))) ⌝ }
 {
     let n = row[1] as usize;
-    if n > 254 {
+    if n > limits::ENTRY {
         return false;
     }
     let to = n + 2;
@@ -71,16 +71,16 @@ pub fn fits_wild(place: u32, ys: &[u32], row: &[u32]) -> bool
     requires { ⌜ length (now row) ≡ rowNumbers ⌝ }
     ensures { λ r. ⌜ ((p : Place) → place ≡ placeNumber p → comparison p ≡ StringLike → r ≡ isRow (wildKind p (now (ys .entry))) (now (row .entry))) ⌝ }
 {
-    if row[0] == 0 {
+    if row[0] == rows::EMPTY {
         return rows::is_zero(row);
     }
-    if row[0] == 1 {
+    if row[0] == rows::ITSELF {
         return is_zero_from(row, 1);
     }
-    if row[0] == 2 {
+    if row[0] == rows::SINGLE {
         return fits_single(place, ys, row);
     }
-    if row[0] == 3 {
+    if row[0] == rows::BEGINNING {
         return fits_beginning(place, ys, row);
     }
     false
@@ -91,10 +91,10 @@ pub fn fits_only(row: &[u32]) -> bool
     requires { ⌜ length (now row) ≡ rowNumbers ⌝ }
     ensures { λ r. ⌜ ((m : Value → Bool) → r ≡ isRow (only m) (now (row .entry))) ⌝ }
 {
-    if row[0] == 0 {
+    if row[0] == rows::EMPTY {
         return rows::is_zero(row);
     }
-    if row[0] == 1 {
+    if row[0] == rows::ITSELF {
         return is_zero_from(row, 1);
     }
     false
@@ -119,10 +119,10 @@ pub fn fits_bound(n: u64, row: &[u32]) -> bool
     requires { ⌜ length (now row) ≡ rowNumbers ⌝ }
     ensures { λ r. ⌜ r ≡ isRow (bounds leb n) (now (row .entry)) ⌝ }
 {
-    if row[0] == 0 {
+    if row[0] == rows::EMPTY {
         return rows::is_zero(row);
     }
-    if row[0] != 4 {
+    if row[0] != rows::NUMBER {
         return false;
     }
     if !is_zero_from(row, 3) {

@@ -34,7 +34,7 @@ fn is_one_text(a: &[u32], b: &[u32]) -> bool
     requires { ⌜ Texted (now a) ⌝ }
     ensures { λ r. ⌜ r ≡ both (eqb (getD (now (a .entry)) 0 0) 2) (same (now (a .entry)) (now (b .entry))) ⌝ }
 {
-    if a[0] != 2 {
+    if a[0] != rows::SINGLE {
         return false;
     }
     forms::same_text(a, b)
@@ -59,10 +59,10 @@ pub fn join_wild(place: u32, ys: &[u32], out: &mut [u32], other: &[u32])
     requires { ⌜ (Texted (now out)) × (Texted (now other)) ⌝ }
     ensures { λ r. ⌜ ((p : Place) (c d : Content) → place ≡ placeNumber p → Textual c → Textual d → now (out .entry) ≡ row c → now (other .entry) ≡ row d → now (out .exit) ≡ row (joined (wildKind p (now (ys .entry))) c d)) ⌝ }
 {
-    if other[0] == 0 {
+    if other[0] == rows::EMPTY {
         return;
     }
-    if out[0] == 0 {
+    if out[0] == rows::EMPTY {
         copy(other, out);
         return;
     }
@@ -70,7 +70,7 @@ pub fn join_wild(place: u32, ys: &[u32], out: &mut [u32], other: &[u32])
         return;
     }
     if kinds::wild(ys) != 1 {
-        rows::put_mark(out, 1);
+        rows::put_mark(out, rows::ITSELF);
         return;
     }
     let last = ys.len() - 1;

@@ -6,6 +6,17 @@ ghost use Prim.Native.Nat.{ℕ, _≤_};
 ghost use Rattle.refine.specs.Rows.{rowNumbers, textCharacters, padded, textRow, numberRow, isZero};
 use policy::limits;
 
+// What stands first in a row tells what it holds: nothing, the entry itself, a single text, a beginning, a number.
+pub const EMPTY: u32 = 0;
+
+pub const ITSELF: u32 = 1;
+
+pub const SINGLE: u32 = 2;
+
+pub const BEGINNING: u32 = 3;
+
+pub const NUMBER: u32 = 4;
+
 // All of it zero.
 pub fn clear(row: &mut [u32])
     ensures { λ r. ⌜ now (row .exit) ≡ replicate (length (now (row .entry))) 0 ⌝ }

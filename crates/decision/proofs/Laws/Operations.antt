@@ -20,15 +20,16 @@ use Rattle.policy.proofs.Laws.Reading.{outcome, says-some, says-is}
 -- ---- one answer
 
 -- the answer as a function of what the two texts come to
-abbrev behindPolicy : Policy → Outcome Request → Outcome Decision
+abbrev pub behindPolicy : Policy → Outcome Request → Outcome Decision
 behindPolicy p (refused f) = refused f
 behindPolicy p (known r) = known (decide p r)
 
-abbrev answer : Outcome Policy → Outcome Request → Outcome Decision
+abbrev pub answer : Outcome Policy → Outcome Request → Outcome Decision
 answer (refused f) x = refused f
 answer (known p) x = behindPolicy p x
 
-decides-is : {policy asked : List ℕ} {x : Outcome Decision} → Decides policy asked x
+-- so the relation is one equation
+pub decides-is : {policy asked : List ℕ} {x : Outcome Decision} → Decides policy asked x
     → x ≡ answer (outcome policyRules policy) (outcome recordRules asked)
 decides-is {policy} {asked} (policy-refused a) =
     ap (λ (y : Outcome Policy). answer y (outcome recordRules asked)) (says-is policyRules policy a)

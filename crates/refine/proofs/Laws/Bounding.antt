@@ -15,6 +15,7 @@ use Rattle.refine.specs.Kinds.{bounds}
 use Rattle.refine.specs.Rows.{rowNumbers, padded, numberRow, row, numberIn}
 use Rattle.refine.specs.Joining.{Numeric, no-number, one-number, Numbered}
 use Rattle.refine.proofs.Laws.Rows.{padded-length}
+use Rattle.refine.proofs.Laws.Joining.{joined-nothing}
 
 number-row : (n : ℕ) → numberRow 4 n ≡ row (holds (upTo n))
 unfolding row
@@ -66,14 +67,10 @@ module _ (k n : ℕ) {out : List ℕ} where
 
 -- ---- joined
 
-joined-nothing : (k : ℕ) (c : Content) → joined (bounds leb k) c empty ≡ c
-joined-nothing k empty = refl
-joined-nothing k (holds a) = refl
-
 module _ (k : ℕ) {out : List ℕ} (c : Content) where
   pub join-kept : {ys : List ℕ} (d : Content) → Counted ys d → getD ys 0 0 ≡ 0 → out ≡ row c
       → out ≡ row (joined (bounds leb k) c d)
-  join-kept d (counts-none e z) h g = g ∙ ap row (sym (joined-nothing k c))
+  join-kept d (counts-none e z) h g = g ∙ ap row (sym (joined-nothing (bounds leb k) c))
   join-kept d (counts-one e m v) h g = absurd (omega (arith, h, m))
 
   pub join-charged : {ys : List ℕ} (d : Content) → Counted ys d → (getD ys 0 0 ≡ 0 → ⊥) → {n : ℕ} → n ≡ numberIn ys

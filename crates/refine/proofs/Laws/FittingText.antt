@@ -17,10 +17,10 @@ use Rattle.refine.proofs.Laws.Fitting.{text-row-long, text-row, single-
 use Rattle.refine.proofs.Laws.FittingWild.{single-none, single-matched, under-final, under-other}
 
 -- the characters as the code hands them on
-abbrev part : List ℕ → List ℕ
+abbrev pub part : List ℕ → List ℕ
 part xs = take (getD xs 1 0 + 2 - 2) (drop 2 xs)
 
-part-is : (xs : List ℕ) → part xs ≡ textIn xs
+pub part-is : (xs : List ℕ) → part xs ≡ textIn xs
 part-is xs = let e : getD xs 1 0 + 2 - 2 ≡ getD xs 1 0 = omega arith in ap (λ (n : ℕ). take n (drop 2 xs)) e
 
 abbrev front : List ℕ → List ℕ

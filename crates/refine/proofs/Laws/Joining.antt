@@ -12,11 +12,12 @@ use Rattle.text.specs.Base.{pick}
 use Rattle.text.specs.Putting.{lay}
 use Rattle.policy.specs.Forms.{both, same}
 use Rattle.policy.proofs.Laws.Same.{same-complete}
-use Rattle.refine.specs.Candidates.{Candidate, itself, single, under, upTo, Content, empty, holds}
+use Rattle.refine.specs.Candidates.{Candidate, itself, single, under, upTo, Content, empty, holds, Kind, joined}
 use Rattle.refine.specs.Beginnings.{shared}
 use Rattle.refine.specs.Rows.{rowNumbers, textCharacters, padded, row, textIn}
 use Rattle.refine.specs.Joining.{Textual, no-text, whole-text, one-text, begun-text, contentText, Texted}
 use Rattle.refine.proofs.Laws.Rows.{padded-length}
+use Rattle.refine.proofs.Laws.FittingText.{part, part-is}
 
 -- ---- what stands in a row
 
@@ -61,6 +62,12 @@ standing c t e = subst (Standing c) (sym e) (of-row c t)
 pub stands : {xs : List ℕ} (w : Texted xs) → Standing (w .content) xs
 stands w = standing (w .content) (w .textual) (w .is)
 
+-- ---- nothing in the second
+
+pub joined-nothing : (k : Kind) (c : Content) → joined k c empty ≡ c
+joined-nothing k empty = refl
+joined-nothing k (holds a) = refl
+
 -- ---- copied
 
 pub lay-all : (xs out : List ℕ) → length xs ≡ length out → lay xs out ≡ xs
@@ -86,10 +93,6 @@ shared-take (x ∷ s) (c ∷ t) = by (eqb x c) (shared-take s t)
 pub shared-few : (s t : List ℕ) → length (shared s t) ≤ length s
 shared-few s t = omega (arith, ap length (shared-take s t), length-take (length (shared s t)) s)
 
--- the characters as the code hands them on
-pub part-is : (xs : List ℕ) → take (getD xs 1 0 + 2 - 2) (drop 2 xs) ≡ textIn xs
-part-is xs = let e : getD xs 1 0 + 2 - 2 ≡ getD xs 1 0 = omega arith in ap (λ (n : ℕ). take n (drop 2 xs)) e
-
 -- n of them are shared with t
 pub shared-part :
     (xs t : List ℕ) (n : ℕ) → n ≡ length (shared (textIn xs) t) → take (n + 2 - 2) (drop 2 xs) ≡ shared (textIn xs) t
@@ -102,7 +105,7 @@ shared-part xs t n e =
 
 -- ---- one single text in both
 
-abbrev oneRow : List ℕ → List ℕ → Bool
+abbrev pub oneRow : List ℕ → List ℕ → Bool
 oneRow xs ys = both (eqb (getD xs 0 0) 2) (same xs ys)
 
 module _ (xs ys : List ℕ) where
@@ -113,9 +116,6 @@ module _ (xs ys : List ℕ) where
   one-same e = sym (ap (λ (b : Bool). both b (same xs ys)) (eq-eqb (getD xs 0 0) 2 e))
 
 -- ---- the shared beginning as the code has it
-
-abbrev part : List ℕ → List ℕ
-part xs = take (getD xs 1 0 + 2 - 2) (drop 2 xs)
 
 pub shared-most :
     {xs ys : List ℕ} {c d : Content} {n : ℕ} → Standing c xs → Standing d ys → n ≡ length (shared (part xs) (part ys))

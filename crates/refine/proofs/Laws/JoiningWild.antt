@@ -21,7 +21,7 @@ use Rattle.refine.specs.Joining.{Textual, no-text, whole-text, one-text,
 use Rattle.refine.proofs.Laws.Encoding.{Sized, no-row, whole-row, text-row, begun-row, row-injective}
 use Rattle.refine.proofs.Laws.FittingWild.{byTests, number, noWildcard, finalStar, kind-is, number-is}
 use Rattle.refine.proofs.Laws.ChargingLeast.{longest-never, mark-row}
-use Rattle.refine.proofs.Laws.Joining.{markOf, Standing}
+use Rattle.refine.proofs.Laws.Joining.{markOf, Standing, joined-nothing, oneRow}
 
 sized : {c : Content} → Textual c → Sized c
 sized no-text = no-row
@@ -38,16 +38,12 @@ marked (one-text h) e = absurd (omega (arith, e))
 marked (begun-text h) e = absurd (omega (arith, e))
 
 module _ (p : Place) (ys : List ℕ) where
-  joined-nothing : (c : Content) → joined (wildKind p ys) c empty ≡ c
-  joined-nothing empty = refl
-  joined-nothing (holds c) = refl
-
   module _ {xs : List ℕ} (c d : Content) where
     pub nothing-second : Textual d → {zs : List ℕ} → Standing d zs → getD zs 0 0 ≡ 0 → xs ≡ row c
         → xs ≡ row (joined (wildKind p ys) c d)
     nothing-second t s e f =
         let n : d ≡ empty = marked t (sym (s .mark) ∙ e) in
-        f ∙ ap row (sym (ap (joined (wildKind p ys) c) n ∙ joined-nothing c))
+        f ∙ ap row (sym (ap (joined (wildKind p ys) c) n ∙ joined-nothing (wildKind p ys) c))
 
     pub nothing-first : Textual c → {zs : List ℕ} → Standing c zs → getD zs 0 0 ≡ 0 → xs ≡ row d
         → xs ≡ row (joined (wildKind p ys) c d)
@@ -77,9 +73,6 @@ two no-text e = absurd (omega (arith, e))
 two whole-text e = absurd (omega (arith, e))
 two (one-text {t} h) e = record { text = t; is = refl }
 two (begun-text h) e = absurd (omega (arith, e))
-
-abbrev oneRow : List ℕ → List ℕ → Bool
-oneRow xs zs = both (eqb (getD xs 0 0) 2) (same xs zs)
 
 -- the same text twice
 one-self : (t : List ℕ) → oneText (single t) (single t) ≡ true

@@ -36,11 +36,12 @@ use Rattle.writing.proofs.Laws.Handing.{handed-long, handed-short, hand
 -- ---- one outcome
 
 -- the outcome as a function of what the text comes to
-abbrev answer : Outcome Policy → List ℕ → Outcome ℕ × List ℕ
+abbrev pub answer : Outcome Policy → List ℕ → Outcome ℕ × List ℕ
 answer (refused f) out = (refused f, out)
 answer (known p) out = handed (writtenPolicy p) out
 
-restates-is :
+-- so the relation is one equation
+pub restates-is :
     {policy out after : List ℕ} {x : Outcome ℕ} → Restates policy out x after
     → _≡_ {A = Outcome ℕ × List ℕ} (x, after) (answer (outcome policyRules policy) out)
 restates-is {policy} {out} (policy-refused a) = ap (λ (y : Outcome Policy). answer y out) (says-is policyRules policy a)

@@ -3,6 +3,18 @@
 /// A statement that allows everything.
 pub const ALLOW: &str = r#"{"Effect":"Allow","Action":"*","Resource":"*"}"#;
 
+/// Numbers about the halves that a held number is parted in, and the ends of
+/// the range.
+pub const NUMBERS: [u64; 7] = [
+    0,
+    7,
+    10,
+    (1 << 32) - 1,
+    1 << 32,
+    (1 << 32) + 1,
+    (1 << 53) - 1,
+];
+
 /// A policy whose Statement is this value.
 pub fn policy(statement: &str) -> String {
     format!(r#"{{"Version":"2012-10-17","Statement":{statement}}}"#)

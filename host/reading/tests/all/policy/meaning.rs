@@ -1,7 +1,7 @@
 //! What is read, told by hand.
 
 use crate::agree;
-use crate::texts::{quoted, with_action, with_resource, with_row};
+use crate::texts::{quoted, with_action, with_resource, with_row, NUMBERS};
 use second::layouts::*;
 
 /// Characters, with the wildcards as `⋆` and `⋄`.
@@ -97,15 +97,7 @@ fn actions() {
 
 #[test]
 fn numbers() {
-    for number in [
-        0,
-        7,
-        10,
-        (1 << 32) - 1,
-        1 << 32,
-        (1 << 32) + 1,
-        (1 << 53) - 1,
-    ] {
+    for number in NUMBERS {
         for spelled in [number.to_string(), quoted(&number.to_string())] {
             let read = statement(&with_row("NumericLessThanEquals", "k", &spelled));
             assert_eq!(read.rows[0].entries, [Value::Number(number)]);

@@ -1,7 +1,7 @@
 //! What is read, told by hand.
 
 use crate::agree;
-use crate::texts::{context_entry, record, with_context};
+use crate::texts::{context_entry, record, with_context, NUMBERS};
 use second::layouts::{ContextEntry, Record, Text, Value};
 
 fn text(characters: &str) -> Text {
@@ -50,15 +50,7 @@ fn characters_are_plain() {
 
 #[test]
 fn numbers() {
-    for number in [
-        0,
-        7,
-        10,
-        (1 << 32) - 1,
-        1 << 32,
-        (1 << 32) + 1,
-        (1 << 53) - 1,
-    ] {
+    for number in NUMBERS {
         let digits = number.to_string();
         let context = read(&with_context(&[context_entry("k", "numeric", &digits)])).context;
         assert_eq!(context[0].value, Value::Number(number));
