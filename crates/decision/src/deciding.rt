@@ -97,7 +97,7 @@ fn typed(operator: u32, kind: u32) -> bool
 }
 
 // Does the entry at a place of the policy meet the value at a place of the request?
-fn meets_at(policy: &[u32], e: usize, operator: u32, request: &[u32], v: usize) -> bool
+pub fn meets_at(policy: &[u32], e: usize, operator: u32, request: &[u32], v: usize) -> bool
     requires { ⌜ (Lying heldValue (now policy) e) × (Lying heldValue (now request) v) ⌝ }
     ensures { λ r. ⌜ ((o : Operator) (x y : Value) → operator ≡ operatorNumber o → Lies (now (policy .entry)) e (heldValue x) → Lies (now (request .entry)) v (heldValue y) → r ≡ meets o x y) ⌝ }
 {
@@ -160,7 +160,7 @@ fn some_meets(policy: &[u32], at: usize, operator: u32, request: &[u32], v: usiz
 
 // The place of the context entry that has the key at a place of the policy, in the list at a place of the request; 0
 // where none has it.
-fn key_place(policy: &[u32], k: usize, request: &[u32], at: usize) -> usize
+pub fn key_place(policy: &[u32], k: usize, request: &[u32], at: usize) -> usize
     requires { ⌜ (Lying heldText (now policy) k) × (Lying (heldList heldContext) (now request) at) ⌝ }
     ensures { λ r. ⌜ ((x : List ℕ) (cs : List Context) → Lies (now (policy .entry)) k (heldText x) → Lies (now (request .entry)) at (heldList heldContext cs) → Finds (now (request .entry)) r (valueAt x cs)) ⌝ }
 {
@@ -246,7 +246,7 @@ pub fn first_failing(policy: &[u32], p: usize, request: &[u32]) -> Failing
     failing_behind(policy, p, request)
 }
 
-fn is_nothing(f: Failing) -> bool
+pub fn is_nothing(f: Failing) -> bool
     ensures { λ r. ⌜ r ≡ isNothing f ⌝ }
 {
     match f {

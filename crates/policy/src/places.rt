@@ -1,9 +1,9 @@
 // Places in a held run.
 ghost use mathlib.Core.Path.{_≡_};
-ghost use Prim.Native.Nat.{_+_};
+ghost use Prim.Native.Nat.{ℕ, _+_, _-_, _*_, _≤_};
 ghost use lib.ListN.{length};
 ghost use Rattle.policy.specs.Policy.{Value};
-ghost use Rattle.policy.specs.Held.{heldValue};
+ghost use Rattle.policy.specs.Held.{heldValue, heldNumber, mark};
 ghost use Rattle.policy.specs.Lying.{Lies, Lying};
 ghost use Rattle.policy.specs.Places.{Labelled, heldLabelled};
 use crate::limits;
@@ -26,4 +26,20 @@ pub fn behind_label(run: &[u32], at: usize) -> usize
     ensures { λ r. ⌜ ((x : Labelled) → Lies (now (run .entry)) at (heldLabelled x) → r ≡ at + 2 + length (x .label)) ⌝ }
 {
     at + 2 + run[at + 1] as usize
+}
+
+// The number of a marked upper half and a lower one.
+fn whole(upper: u32, lower: u32) -> u64
+    requires { ⌜ mark ≤ upper ⌝ }
+    ensures { λ r. ⌜ r ≡ (upper - mark) * 4294967296 + lower ⌝ }
+{
+    (upper - limits::MARK) as u64 * limits::HALF + lower as u64
+}
+
+// The number that lies at a place.
+pub fn number_at(run: &[u32], at: usize) -> u64
+    requires { ⌜ Lying heldNumber (now run) at ⌝ }
+    ensures { λ r. ⌜ ((n : ℕ) → Lies (now (run .entry)) at (heldNumber n) → r ≡ n) ⌝ }
+{
+    whole(run[at], run[at + 1])
 }

@@ -1,9 +1,8 @@
 // Entries of a held policy, and lists of them.
-ghost use mathlib.Core.Path.{_≡_};
-ghost use Prim.Native.Nat.{ℕ, _+_, _-_, _*_, _≤_};
+ghost use Prim.Native.Nat.{ℕ};
 ghost use mathlib.Core.List.{List};
 ghost use Rattle.policy.specs.Policy.{Value};
-ghost use Rattle.policy.specs.Held.{heldValue, heldNumber, heldList, mark};
+ghost use Rattle.policy.specs.Held.{heldValue, heldNumber, heldList};
 ghost use Rattle.policy.specs.Lying.{Lies, Lying};
 ghost use Rattle.writing.specs.Showing.{Adds};
 ghost use Rattle.writing.specs.Bytes.{entryBody, entryBytes, listBytes};
@@ -13,20 +12,12 @@ use crate::spelling;
 use policy::limits;
 use policy::places;
 
-// The number of a marked upper half and a lower one.
-fn whole(upper: u32, lower: u32) -> u64
-    requires { ⌜ mark ≤ upper ⌝ }
-    ensures { λ r. ⌜ r ≡ (upper - mark) * 4294967296 + lower ⌝ }
-{
-    (upper - limits::MARK) as u64 * limits::HALF + lower as u64
-}
-
 // The number that lies at a place.
 fn put_number(run: &[u32], at: usize, out: &mut [u8], o: usize) -> usize
     requires { ⌜ Lying heldNumber (now run) at ⌝ }
     ensures { λ r. ⌜ ((n : ℕ) → Lies (now (run .entry)) at (heldNumber n) → Adds (digitsOf n) (now (out .entry)) o r (now (out .exit))) ⌝ }
 {
-    let n = whole(run[at], run[at + 1]);
+    let n = places::number_at(run, at);
     spelling::put_digits(out, o, 15, n)
 }
 
@@ -47,7 +38,7 @@ fn put_body(kind: u32, run: &[u32], at: usize, out: &mut [u8], o: usize) -> usiz
     spelling::put_spelled(out, o, kind == 2, &run[from..to])
 }
 
-fn put_entry(kind: u32, run: &[u32], at: usize, out: &mut [u8], o: usize) -> usize
+pub fn put_entry(kind: u32, run: &[u32], at: usize, out: &mut [u8], o: usize) -> usize
     requires { ⌜ Lying heldValue (now run) at ⌝ }
     ensures { λ r. ⌜ ((x : Value) → Lies (now (run .entry)) at (heldValue x) → Adds (entryBytes kind x) (now (out .entry)) o r (now (out .exit))) ⌝ }
 {

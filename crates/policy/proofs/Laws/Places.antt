@@ -8,7 +8,7 @@ use native.Mathlib.Omega.{arith}
 use lib.ListN.{length, getD}
 use borrow.Rule.Slice.PartMut.{midOf}
 use Rattle.policy.specs.Limits.{runNumbers}
-use Rattle.policy.specs.Held.{heldText, heldNumber}
+use Rattle.policy.specs.Held.{heldText, heldNumber, mark}
 use Rattle.policy.specs.Lying.{Lies}
 use Rattle.policy.specs.Places.{Labelled, heldLabelled}
 use Rattle.policy.proofs.Laws.Runs.{lies-inside, lies-first, lies-next, lies-end, lies-part}
@@ -74,3 +74,11 @@ half = 4294967296
 -- a number is its halves, the lower one below 2 ^ 32
 pub parted : (n : ℕ) → (n / half * 4294967296 + n % half ≡ n) × (n % half < 4294967296)
 parted n = (div-add-mod' n half, mod-lt n {m = half} (omega arith))
+
+pub number-whole :
+    {run : List ℕ} {p : ℕ} (n : ℕ) → Lies run p (heldNumber n)
+    → (getD run p 0 - mark) * 4294967296 + getD run (p + 1) 0 ≡ n
+number-whole {run} {p} n l =
+    let u : getD run p 0 - mark ≡ n / 4294967296 = omega (arith, lies-first l) in
+    ap (λ (k : ℕ). k * 4294967296 + getD run (p + 1) 0) u
+    ∙ ap (λ (k : ℕ). n / 4294967296 * 4294967296 + k) (lower-half n l) ∙ parted n .0

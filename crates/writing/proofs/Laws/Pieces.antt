@@ -11,10 +11,6 @@ use Rattle.text.specs.Written.{written, writtenText}
 use Rattle.text.specs.Printing.{quoted}
 use Rattle.policy.specs.Words.{sidWord, effectWord, allowWord, denyWord}
 use Rattle.policy.specs.Words.{stringEqualsWord, stringLikeWord, numericLessThanEqualsWord}
-use Rattle.policy.specs.Held.{heldNumber, mark}
-use Rattle.policy.specs.Lying.{Lies}
-use Rattle.policy.proofs.Laws.Runs.{lies-first}
-use Rattle.policy.proofs.Laws.Places.{parted, lower-half}
 use Rattle.writing.specs.WrittenForm.{bare, isEscaped, spelling, digitsUpTo}
 use Rattle.writing.specs.Showing.{Adds}
 use Rattle.writing.specs.Bytes.{name, operatorName, ending, turning, sidBytes, effectBytes}
@@ -51,14 +47,6 @@ digits-more zero n s h = absurd (s refl)
 digits-more (suc k) n s h =
     let e : suc k - 1 ≡ k = omega arith in
     rw (le-ltb n 10 h) (ap (λ (j : ℕ). digitsUpTo j (n / 10) ++ ((48 + n % 10) ∷ [])) e)
-
-pub number-whole :
-    {run : List ℕ} {p : ℕ} (n : ℕ) → Lies run p (heldNumber n)
-    → (getD run p 0 - mark) * 4294967296 + getD run (p + 1) 0 ≡ n
-number-whole {run} {p} n l =
-    let u : getD run p 0 - mark ≡ n / 4294967296 = omega (arith, lies-first l) in
-    ap (λ (k : ℕ). k * 4294967296 + getD run (p + 1) 0) u
-    ∙ ap (λ (k : ℕ). n / 4294967296 * 4294967296 + k) (lower-half n l) ∙ parted n .0
 
 -- ---- names
 
