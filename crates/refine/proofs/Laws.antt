@@ -28,3 +28,16 @@ pub mod Joining
 pub mod JoiningWild
 pub mod JoiningLeast
 pub mod Bounding
+pub mod Handling
+pub mod HandlingRows
+pub mod Walking
+pub mod WalkingRows
+pub mod Listing
+pub mod ListingValues
+pub mod ListingWalk
+pub mod ListingStatement
+pub mod ListingTurns
+pub mod ListingParts
+pub mod Charged
+pub mod Held
+pub mod Exports

@@ -7,5 +7,9 @@ pub mod Places
 pub mod Rows
 pub mod Joining
 pub mod Rooms
+pub mod Listing
+pub mod Walking
 pub mod Finishing
 pub mod Operations
+pub mod Sound
+pub mod Exports

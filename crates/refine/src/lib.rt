@@ -2,9 +2,12 @@
 pub mod beginnings;
 pub mod bounding;
 pub mod charging;
+pub mod exports;
 pub mod fitting;
 pub mod joining;
 pub mod kinds;
 pub mod legality;
+pub mod listing;
 pub mod operations;
 pub mod rows;
+pub mod walking;

@@ -1,7 +1,22 @@
-// The operations on rooms.
+// The operations on rooms, over bytes and numbers.
 ghost use mathlib.Core.Path.{_≡_};
-ghost use Rattle.refine.specs.Operations.{freshened, toldDone};
+ghost use mathlib.Core.Bool.{true};
+ghost use Rattle.policy.specs.Policy.{Policy, Request};
+ghost use Rattle.policy.specs.Held.{held, heldRequest};
+ghost use Rattle.policy.specs.Lying.{Lies, Lying};
+ghost use Rattle.decision.specs.Decision.{decide};
+ghost use Rattle.decision.specs.Operations as deciding;
+ghost use Rattle.refine.specs.Rooms.{slots, allowedCharges, charges, fed};
+ghost use Rattle.refine.specs.Operations.{isRoom, holdsFor, Feeds, Joins, freshened, toldDone};
+ghost use Rattle.refine.specs.Sound.{Sound, ShortRequest, HeldSound, HeldShort, PolicyFeeds, PolicyJoins};
+ghost use Rattle.refine.specs.Sound.{Holding};
+use crate::listing;
 use crate::rows;
+use crate::walking;
+use decision::deciding;
+use decision::deciding::Decision;
+use policy::reading;
+use policy::reading::Read;
 use policy::refusals::Refusal;
 
 // The numbers of a room.
@@ -11,6 +26,114 @@ const ROOM: usize = 16384;
 pub enum Answer {
     Done,
     Refused(Refusal),
+}
+
+// Does a room hold what the room of a held policy can?
+fn holds_room(run: &[u32], room: &[u32]) -> bool
+    requires { ⌜ (HeldSound (now run)) × (isRoom (now room) ≡ true) ⌝ }
+    ensures { λ r. ⌜ ((p : Policy) → Lies (now (run .entry)) 0 (held p) → Sound p → r ≡ holdsFor p (now (room .entry))) ⌝ }
+{
+    let mut dir = [0u32; 256];
+    let n = listing::list_policy(run, run, false, &mut dir);
+    walking::fits_room(run, &dir, n, room)
+}
+
+// What a held request charges under a held policy that allows it.
+fn charge(run: &[u32], request: &[u32], room: &mut [u32])
+    requires { ⌜ (Holding (now run) (now room)) × (HeldShort (now request)) ⌝ }
+    ensures { λ r. ⌜ ((p : Policy) (q : Request) → Lies (now (run .entry)) 0 (held p) → Lies (now (request .entry)) 0 (heldRequest q) → Sound p → ShortRequest q → holdsFor p (now (room .entry)) ≡ true → now (room .exit) ≡ fed (slots p) (allowedCharges p q) (now (room .entry))) ⌝ }
+{
+    let mut dir = [0u32; 256];
+    let n = listing::list_policy(run, request, true, &mut dir);
+    walking::feed_room(run, request, &dir, n, room);
+}
+
+// The decision on a held request; one that is allowed is charged.
+fn feed_request(run: &[u32], request: &[u32], room: &mut [u32]) -> Decision
+    requires { ⌜ (Holding (now run) (now room)) × (HeldShort (now request)) ⌝ }
+    ensures { λ r. ⌜ ((p : Policy) (q : Request) → Lies (now (run .entry)) 0 (held p) → Lies (now (request .entry)) 0 (heldRequest q) → Sound p → ShortRequest q → holdsFor p (now (room .entry)) ≡ true → (r ≡ decide p q) × (now (room .exit) ≡ fed (slots p) (charges p q) (now (room .entry)))) ⌝ }
+{
+    let d = deciding::decide(run, request);
+    match d {
+        Decision::Allowed(n) => {
+            charge(run, request, room);
+            Decision::Allowed(n)
+        }
+        Decision::Denied(n) => Decision::Denied(n),
+        Decision::Implicit => Decision::Implicit,
+    }
+}
+
+// Feed, under a held policy whose room this is.
+fn feed_record(run: &[u32], asked: &[u8], room: &mut [u32]) -> decision::operations::Answer
+    requires { ⌜ Holding (now run) (now room) ⌝ }
+    ensures { λ r. ⌜ ((p : Policy) → Lies (now (run .entry)) 0 (held p) → Sound p → holdsFor p (now (room .entry)) ≡ true → PolicyFeeds p (now (asked .entry)) (now (room .entry)) (deciding.toldAnswer r) (now (room .exit))) ⌝ }
+{
+    let mut request = [0u32; 8448];
+    let h = reading::read_record(asked, &mut request);
+    match h {
+        Read::Held(_) => decision::operations::Answer::Decided(feed_request(run, &request, room)),
+        Read::Refused(f) => decision::operations::Answer::Refused(f),
+    }
+}
+
+// Feed, under a held policy.
+fn feed_held(run: &[u32], asked: &[u8], room: &mut [u32]) -> decision::operations::Answer
+    requires { ⌜ (HeldSound (now run)) × (isRoom (now room) ≡ true) ⌝ }
+    ensures { λ r. ⌜ ((p : Policy) → Lies (now (run .entry)) 0 (held p) → Sound p → PolicyFeeds p (now (asked .entry)) (now (room .entry)) (deciding.toldAnswer r) (now (room .exit))) ⌝ }
+{
+    if !holds_room(run, room) {
+        return decision::operations::Answer::Refused(Refusal::RoomContent);
+    }
+    feed_record(run, asked, room)
+}
+
+pub fn feed(policy: &[u8], asked: &[u8], room: &mut [u32]) -> decision::operations::Answer
+    ensures { λ r. ⌜ Feeds (now (policy .entry)) (now (asked .entry)) (now (room .entry)) (deciding.toldAnswer r) (now (room .exit)) ⌝ }
+{
+    if room.len() != ROOM {
+        return decision::operations::Answer::Refused(Refusal::RoomLength);
+    }
+    let mut run = [0u32; 16384];
+    let h = reading::read_policy(policy, &mut run);
+    match h {
+        Read::Held(_) => feed_held(&run, asked, room),
+        Read::Refused(f) => decision::operations::Answer::Refused(f),
+    }
+}
+
+// Join, under a held policy.
+fn join_held(run: &[u32], room: &mut [u32], other: &[u32]) -> Answer
+    requires { ⌜ (HeldSound (now run)) × (isRoom (now room) ≡ true) × (isRoom (now other) ≡ true) ⌝ }
+    ensures { λ r. ⌜ ((p : Policy) → Lies (now (run .entry)) 0 (held p) → Sound p → PolicyJoins p (now (room .entry)) (now (other .entry)) (toldDone r) (now (room .exit))) ⌝ }
+{
+    let mut dir = [0u32; 256];
+    let n = listing::list_policy(run, run, false, &mut dir);
+    if !walking::fits_room(run, &dir, n, room) {
+        return Answer::Refused(Refusal::RoomContent);
+    }
+    if !walking::fits_room(run, &dir, n, other) {
+        return Answer::Refused(Refusal::RoomContent);
+    }
+    walking::join_room(run, &dir, n, room, other);
+    Answer::Done
+}
+
+pub fn join(policy: &[u8], room: &mut [u32], other: &[u32]) -> Answer
+    ensures { λ r. ⌜ Joins (now (policy .entry)) (now (room .entry)) (now (other .entry)) (toldDone r) (now (room .exit)) ⌝ }
+{
+    if room.len() != ROOM {
+        return Answer::Refused(Refusal::RoomLength);
+    }
+    if other.len() != ROOM {
+        return Answer::Refused(Refusal::RoomLength);
+    }
+    let mut run = [0u32; 16384];
+    let h = reading::read_policy(policy, &mut run);
+    match h {
+        Read::Held(_) => join_held(&run, room, other),
+        Read::Refused(f) => Answer::Refused(f),
+    }
 }
 
 // An empty room.

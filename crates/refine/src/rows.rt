@@ -6,6 +6,9 @@ ghost use Prim.Native.Nat.{ℕ, _≤_};
 ghost use Rattle.refine.specs.Rows.{rowNumbers, textCharacters, padded, textRow, numberRow, isZero};
 use policy::limits;
 
+// How many numbers a row has.
+pub const NUMBERS: usize = 256;
+
 // What stands first in a row tells what it holds: nothing, the entry itself, a single text, a beginning, a number.
 pub const EMPTY: u32 = 0;
 

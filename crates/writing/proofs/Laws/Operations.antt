@@ -151,6 +151,7 @@ within t p e = by (policyOf t) refl e
     by wrong r c = never c
     by (read q) r c = under q (overLimit q) refl r c
 
+-- a policy that was read
 module _ {s : List ℕ} (p : Policy) (a : Says policyRules s (known p)) where
   abbrev told : Known s p
   told = said-known a p refl
@@ -158,15 +159,18 @@ module _ {s : List ℕ} (p : Policy) (a : Says policyRules s (known p)) where
   abbrev laid : Within (told .tree) p
   laid = within (told .tree) p (told .comes)
 
-  valid : Valid p
-  valid = policy-valid (told .tree) (says-sound (told .says)) p (laid .layout)
+  pub read-limits : overLimit p ≡ false
+  read-limits = laid .limits
+
+  pub read-valid : Valid p
+  read-valid = policy-valid (told .tree) (says-sound (told .says)) p (laid .layout)
 
   module _ (short : length (writtenPolicy p) ≤ resultBytes) where
     written-outcome : outcome policyRules (writtenPolicy p) ≡ known p
     unfolding outcome byVerdict
     written-outcome =
-        rw (le-ltb policyBytes (length (writtenPolicy p)) (omega arith), written-whole p valid)
-        (ap policyComes (written-policy p valid)
+        rw (le-ltb policyBytes (length (writtenPolicy p)) (omega arith), written-whole p read-valid)
+        (ap policyComes (written-policy p read-valid)
         ∙ ap (λ (b : Bool). pick b (refused PolicyLimit) (known p)) (laid .limits))
 
     written-says : Says policyRules (writtenPolicy p) (known p)
