@@ -1,32 +1,18 @@
-// The readers of policies and records, Decide and Restate as numbers, for tests from Rust. No part of the product.
+// The readers of policies and records as numbers, for tests from Rust. No part of the product.
 ghost use mathlib.Core.Path.{_≡_};
 ghost use Rattle.policy.specs.Held.{held, heldRequest};
 ghost use Rattle.policy.specs.Reading.{policyRules, recordRules};
-ghost use Rattle.decision.specs.Operations as deciding;
-ghost use Rattle.writing.specs.Operations as writing;
-ghost use Rattle.policy_probe.specs.Numbers.{ofRead, Tells, ofDecision, ofDecided, Judges, ofWritten, Writes};
-use decision::deciding::Decision;
+ghost use Rattle.policy_probe.specs.Numbers.{ofRead, Tells};
 use policy::reading;
 use policy::reading::Read;
 use policy::refusals;
 
-// A refusal's number and its place; or 0, 0, and how many numbers of the run hold what was read, or how many bytes of
-// the output were written.
+// A refusal's number and its place; or 0, 0, and how many numbers of the run hold what was read.
 #[repr(C)]
 pub struct Told {
     pub refusal: u64,
     pub place: usize,
     pub count: usize,
-}
-
-// A refusal's number and its place; or 0, 0, and a decision: 1 allowed, 2 explicitly denied, 3 implicitly denied, with
-// the statement that decides, counted from 1, and 0 where none does.
-#[repr(C)]
-pub struct Judged {
-    pub refusal: u64,
-    pub place: usize,
-    pub decision: u64,
-    pub statement: usize,
 }
 
 const RUN: usize = 16384;
@@ -47,70 +33,6 @@ fn numbers(r: Read) -> Told
             count: n,
         },
         Read::Refused(f) => {
-            let n = refusals::number(f);
-            let p = refusals::place(f);
-            Told {
-                refusal: wide(n),
-                place: p,
-                count: 0,
-            }
-        }
-    }
-}
-
-fn of_decision(d: Decision) -> Judged
-    ensures { λ t. ⌜ t ≡ ofDecision d ⌝ }
-{
-    match d {
-        Decision::Allowed(n) => Judged {
-            refusal: 0,
-            place: 0,
-            decision: 1,
-            statement: n,
-        },
-        Decision::Denied(n) => Judged {
-            refusal: 0,
-            place: 0,
-            decision: 2,
-            statement: n,
-        },
-        Decision::Implicit => Judged {
-            refusal: 0,
-            place: 0,
-            decision: 3,
-            statement: 0,
-        },
-    }
-}
-
-fn of_decided(a: decision::operations::Answer) -> Judged
-    ensures { λ t. ⌜ t ≡ ofDecided (deciding.toldAnswer a) ⌝ }
-{
-    match a {
-        decision::operations::Answer::Decided(d) => of_decision(d),
-        decision::operations::Answer::Refused(f) => {
-            let n = refusals::number(f);
-            let p = refusals::place(f);
-            Judged {
-                refusal: wide(n),
-                place: p,
-                decision: 0,
-                statement: 0,
-            }
-        }
-    }
-}
-
-fn of_written(a: writing::operations::Answer) -> Told
-    ensures { λ t. ⌜ t ≡ ofWritten (writing.toldAnswer a) ⌝ }
-{
-    match a {
-        writing::operations::Answer::Written(n) => Told {
-            refusal: 0,
-            place: 0,
-            count: n,
-        },
-        writing::operations::Answer::Refused(f) => {
             let n = refusals::number(f);
             let p = refusals::place(f);
             Told {
@@ -150,18 +72,4 @@ pub extern "C" fn policy_probe_record(s: &[u8], run: &mut [u32]) -> Told
     }
     let r = reading::read_record(s, run);
     numbers(r)
-}
-
-#[no_mangle]
-pub extern "C" fn policy_probe_decide(policy: &[u8], asked: &[u8]) -> Judged
-    ensures { λ t. ⌜ Judges (now (policy .entry)) (now (asked .entry)) t ⌝ }
-{
-    of_decided(decision::operations::decide(policy, asked))
-}
-
-#[no_mangle]
-pub extern "C" fn policy_probe_restate(policy: &[u8], out: &mut [u8]) -> Told
-    ensures { λ t. ⌜ Writes (now (policy .entry)) (now (out .entry)) (now (out .exit)) t ⌝ }
-{
-    of_written(writing::operations::restate(policy, out))
 }

@@ -40,4 +40,14 @@ pub mod ListingTurns
 pub mod ListingParts
 pub mod Charged
 pub mod Held
+pub mod Keeping
+pub mod KeepingEntries
+pub mod KeepingLists
+pub mod KeepingTests
+pub mod KeepingRows
+pub mod KeepingStatements
+pub mod KeepingWhole
+pub mod KeepingPolicy
+pub mod Keepable
+pub mod Lengths
 pub mod Exports

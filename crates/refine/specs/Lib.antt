@@ -12,4 +12,5 @@ pub mod Walking
 pub mod Finishing
 pub mod Operations
 pub mod Sound
+pub mod Keeping
 pub mod Exports

@@ -123,6 +123,13 @@ pub extern "C" fn muckposy_join(policy: &[u8], room: &mut [u32], other: &[u32]) 
 }
 
 #[no_mangle]
+pub extern "C" fn muckposy_finish(policy: &[u8], room: &[u32], out: &mut [u8]) -> Reply
+    ensures { λ t. ⌜ Replies (λ x. Finishes (now (policy .entry)) (now (room .entry)) (now (out .entry)) x (now (out .exit))) ofWritten t ⌝ }
+{
+    of_written(operations::finish(policy, room, out))
+}
+
+#[no_mangle]
 pub extern "C" fn muckposy_restate(policy: &[u8], out: &mut [u8]) -> Reply
     ensures { λ t. ⌜ Replies (λ x. writing.Restates (now (policy .entry)) (now (out .entry)) x (now (out .exit))) ofWritten t ⌝ }
 {

@@ -3,6 +3,7 @@ pub mod beginnings;
 pub mod bounding;
 pub mod charging;
 pub mod exports;
+pub mod finishing;
 pub mod fitting;
 pub mod joining;
 pub mod kinds;

@@ -97,11 +97,11 @@ fn list_entries(
     requires { ⌜ (Effecting effect) × (Placed place) × (Listable (heldList heldValue) length (now run) at (now dir) o) × (Carried (now request) v) ⌝ }
     ensures { λ r. ⌜ ((a : Effect) (p : Place) (xs : List Value) (f : Found) → effect ≡ effectNumber a → place ≡ placeNumber p → Lies (now (run .entry)) at (heldList heldValue xs) → Valued (now (request .entry)) v f → Lists (now (run .entry)) (now (request .entry)) (slotsAt a p xs) (hits p f xs) (now (dir .entry)) o r (now (dir .exit))) ⌝ }
 {
-    let n = run[at] as usize;
+    let many = run[at] as usize;
     let mut next = o;
     let mut e = at + 1;
     let mut i = 0usize;
-    while i < n {
+    while i < many {
         let h = handling(effect, place, run, e);
         let w = hit(place, run, e, request, v);
         next = note(dir, next, h, place, e, w);

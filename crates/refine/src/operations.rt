@@ -6,10 +6,12 @@ ghost use Rattle.policy.specs.Held.{held, heldRequest};
 ghost use Rattle.policy.specs.Lying.{Lies, Lying};
 ghost use Rattle.decision.specs.Decision.{decide};
 ghost use Rattle.decision.specs.Operations as deciding;
+ghost use Rattle.writing.specs.Operations as writing;
 ghost use Rattle.refine.specs.Rooms.{slots, allowedCharges, charges, fed};
-ghost use Rattle.refine.specs.Operations.{isRoom, holdsFor, Feeds, Joins, freshened, toldDone};
+ghost use Rattle.refine.specs.Operations.{isRoom, holdsFor, Feeds, Joins, Finishes, freshened, toldDone};
 ghost use Rattle.refine.specs.Sound.{Sound, ShortRequest, HeldSound, HeldShort, PolicyFeeds, PolicyJoins};
-ghost use Rattle.refine.specs.Sound.{Holding};
+ghost use Rattle.refine.specs.Sound.{PolicyFinishes, Holding};
+use crate::finishing;
 use crate::listing;
 use crate::rows;
 use crate::walking;
@@ -133,6 +135,36 @@ pub fn join(policy: &[u8], room: &mut [u32], other: &[u32]) -> Answer
     match h {
         Read::Held(_) => join_held(&run, room, other),
         Read::Refused(f) => Answer::Refused(f),
+    }
+}
+
+// Finish, under a held policy: 10, or the refined policy handed out.
+fn finish_held(run: &[u32], room: &[u32], out: &mut [u8]) -> writing::operations::Answer
+    requires { ⌜ (HeldSound (now run)) × (isRoom (now room) ≡ true) ⌝ }
+    ensures { λ r. ⌜ ((p : Policy) → Lies (now (run .entry)) 0 (held p) → Sound p → PolicyFinishes p (now (room .entry)) (now (out .entry)) (writing.toldAnswer r) (now (out .exit))) ⌝ }
+{
+    if !holds_room(run, room) {
+        return writing::operations::Answer::Refused(Refusal::RoomContent);
+    }
+    if !finishing::some_allowed(run, room) {
+        return writing::operations::Answer::Refused(Refusal::NoAllow);
+    }
+    let mut bytes = [0u8; 6144];
+    let n = finishing::put_refined(run, room, &mut bytes);
+    writing::operations::deliver(&bytes, n, out)
+}
+
+pub fn finish(policy: &[u8], room: &[u32], out: &mut [u8]) -> writing::operations::Answer
+    ensures { λ r. ⌜ Finishes (now (policy .entry)) (now (room .entry)) (now (out .entry)) (writing.toldAnswer r) (now (out .exit)) ⌝ }
+{
+    if room.len() != ROOM {
+        return writing::operations::Answer::Refused(Refusal::RoomLength);
+    }
+    let mut run = [0u32; 16384];
+    let h = reading::read_policy(policy, &mut run);
+    match h {
+        Read::Held(_) => finish_held(&run, room, out),
+        Read::Refused(f) => writing::operations::Answer::Refused(f),
     }
 }
 

@@ -76,6 +76,10 @@ sidBytes (c ∷ cs) = name sidWord ++ (quoted (writtenText (c ∷ cs)) ++ (44 �
 unfoldable pub effectBytes : ℕ → List ℕ
 effectBytes k = name effectWord ++ (quoted (pick (eqb k 1) allowWord denyWord) ++ (44 ∷ []))
 
+-- up to the actions
+unfoldable pub headBytes : Statement → List ℕ
+headBytes s = 123 ∷ (sidBytes (s .sid) ++ (effectBytes (effectNumber (s .effect)) ++ name actionWord))
+
 unfoldable pub statementBytes : Statement → List ℕ
 statementBytes s =
     123 ∷ (sidBytes (s .sid)

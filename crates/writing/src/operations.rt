@@ -1,11 +1,14 @@
 // Restate over bytes, and the end of every operation that writes a policy.
 ghost use mathlib.Core.Path.{_≡_};
+ghost use mathlib.Core.List.{List};
 ghost use lib.ListN.{length, take};
-ghost use Prim.Native.Nat.{_≤_};
+ghost use Prim.Native.Nat.{ℕ, _≤_};
 ghost use Rattle.text.specs.Putting.{lay};
+ghost use Rattle.policy.specs.Limits.{resultBytes};
 ghost use Rattle.policy.specs.Policy.{Policy};
 ghost use Rattle.policy.specs.Held.{held};
 ghost use Rattle.policy.specs.Lying.{Lies, Lying};
+ghost use Rattle.writing.specs.Showing.{Shows};
 ghost use Rattle.writing.specs.WrittenForm.{writtenPolicy};
 ghost use Rattle.writing.specs.Operations.{Restates, handed, toldAnswer};
 use crate::policies;
@@ -32,6 +35,21 @@ fn copy(bs: &[u8], n: usize, out: &mut [u8])
     }
 }
 
+// The n bytes that a room shows, if they are not too many for a result and for what is lent.
+pub fn deliver(room: &[u8], n: usize, out: &mut [u8]) -> Answer
+    requires { ⌜ length (now room) ≡ resultBytes ⌝ }
+    ensures { λ r. ⌜ ((ws : List ℕ) → Shows ws n (now (room .entry)) → (toldAnswer r, now (out .exit)) ≡ handed ws (now (out .entry))) ⌝ }
+{
+    if n > limits::RESULT {
+        return Answer::Refused(Refusal::ResultLength);
+    }
+    if n > out.len() {
+        return Answer::Refused(Refusal::OutputLength);
+    }
+    copy(room, n, out);
+    Answer::Written(n)
+}
+
 // A held policy, if it is not too long for a result and for what is lent.
 pub fn hand(run: &[u32], out: &mut [u8]) -> Answer
     requires { ⌜ Lying held (now run) 0 ⌝ }
@@ -39,14 +57,7 @@ pub fn hand(run: &[u32], out: &mut [u8]) -> Answer
 {
     let mut room = [0u8; 6144];
     let n = policies::put_policy(run, &mut room);
-    if n > limits::RESULT {
-        return Answer::Refused(Refusal::ResultLength);
-    }
-    if n > out.len() {
-        return Answer::Refused(Refusal::OutputLength);
-    }
-    copy(&room, n, out);
-    Answer::Written(n)
+    deliver(&room, n, out)
 }
 
 pub fn restate(policy: &[u8], out: &mut [u8]) -> Answer

@@ -1,12 +1,14 @@
 // Condition rows of a held policy, by their operators.
 ghost use mathlib.Core.List.{List};
+ghost use Rattle.text.specs.Written.{writtenText};
 ghost use Rattle.policy.specs.Policy.{Row};
 ghost use Rattle.policy.specs.Held.{heldRow, heldList};
 ghost use Rattle.policy.specs.Lying.{Lies, Lying};
 ghost use Rattle.writing.specs.Showing.{Adds};
-ghost use Rattle.writing.specs.Bytes.{operatorName, ending, turning, rowBytes, rowsFrom, conditionBytes};
+ghost use Rattle.writing.specs.Bytes.{name, operatorName, ending, turning, rowBytes, rowsFrom, conditionBytes};
 use crate::entries;
 use crate::sink;
+use policy::places;
 use policy::runs;
 
 // The name of an operator, by its number.
@@ -33,7 +35,7 @@ fn put_ending(out: &mut [u8], at: usize, last: u32) -> usize
 }
 
 // What stands before a row: a comma where the last one has the same operator, else that one's end and the new name.
-fn put_turning(out: &mut [u8], at: usize, last: u32, operator: u32) -> usize
+pub fn put_turning(out: &mut [u8], at: usize, last: u32, operator: u32) -> usize
     ensures { λ r. ⌜ Adds (turning last operator) (now (out .entry)) at r (now (out .exit)) ⌝ }
 {
     if last == operator {
@@ -45,17 +47,26 @@ fn put_turning(out: &mut [u8], at: usize, last: u32, operator: u32) -> usize
     sink::put_bytes(out, named, b"\":{")
 }
 
-fn put_row(run: &[u32], p: usize, out: &mut [u8], o: usize) -> usize
+// The key of the row at a place, as a member's name.
+pub fn put_key(run: &[u32], p: usize, out: &mut [u8], o: usize) -> usize
     requires { ⌜ Lying heldRow (now run) p ⌝ }
-    ensures { λ r. ⌜ ((x : Row) → Lies (now (run .entry)) p (heldRow x) → Adds (rowBytes x) (now (out .entry)) o r (now (out .exit))) ⌝ }
+    ensures { λ r. ⌜ ((x : Row) → Lies (now (run .entry)) p (heldRow x) → Adds (name (writtenText (x .key))) (now (out .entry)) o r (now (out .exit))) ⌝ }
 {
     let n = run[p + 1] as usize;
     let from = p + 2;
     let to = from + n;
     let open = sink::put(out, o, 34);
     let key = sink::put_text(out, open, &run[from..to]);
-    let named = sink::put_bytes(out, key, b"\":");
-    entries::put_list(run[p], run, to, out, named)
+    sink::put_bytes(out, key, b"\":")
+}
+
+fn put_row(run: &[u32], p: usize, out: &mut [u8], o: usize) -> usize
+    requires { ⌜ Lying heldRow (now run) p ⌝ }
+    ensures { λ r. ⌜ ((x : Row) → Lies (now (run .entry)) p (heldRow x) → Adds (rowBytes x) (now (out .entry)) o r (now (out .exit))) ⌝ }
+{
+    let named = put_key(run, p, out, o);
+    let at = places::behind_label(run, p);
+    entries::put_list(run[p], run, at, out, named)
 }
 
 // The rows of the list at a place, without what ends the last.

@@ -4,7 +4,7 @@ ghost use Rattle.policy.specs.Held.{heldStatement};
 ghost use Rattle.policy.specs.Lying.{Lies, Lying};
 ghost use Rattle.policy.specs.Places.{Labelled, heldLabelled};
 ghost use Rattle.writing.specs.Showing.{Adds};
-ghost use Rattle.writing.specs.Bytes.{sidBytes, effectBytes, statementBytes};
+ghost use Rattle.writing.specs.Bytes.{sidBytes, effectBytes, headBytes, statementBytes};
 use crate::entries;
 use crate::rows;
 use crate::sink;
@@ -37,14 +37,22 @@ fn put_effect(out: &mut [u8], at: usize, effect: u32) -> usize
     sink::put_bytes(out, at, b"\"Effect\":\"Deny\",")
 }
 
-pub fn put_statement(run: &[u32], p: usize, out: &mut [u8], o: usize) -> usize
+// A statement's beginning, up to its actions.
+pub fn put_head(run: &[u32], p: usize, out: &mut [u8], o: usize) -> usize
     requires { ⌜ Lying heldStatement (now run) p ⌝ }
-    ensures { λ r. ⌜ ((x : Statement) → Lies (now (run .entry)) p (heldStatement x) → Adds (statementBytes x) (now (out .entry)) o r (now (out .exit))) ⌝ }
+    ensures { λ r. ⌜ ((x : Statement) → Lies (now (run .entry)) p (heldStatement x) → Adds (headBytes x) (now (out .entry)) o r (now (out .exit))) ⌝ }
 {
     let open = sink::put(out, o, 123);
     let sid = put_sid(run, p, out, open);
     let effect = put_effect(out, sid, run[p]);
-    let action = sink::put_bytes(out, effect, b"\"Action\":");
+    sink::put_bytes(out, effect, b"\"Action\":")
+}
+
+pub fn put_statement(run: &[u32], p: usize, out: &mut [u8], o: usize) -> usize
+    requires { ⌜ Lying heldStatement (now run) p ⌝ }
+    ensures { λ r. ⌜ ((x : Statement) → Lies (now (run .entry)) p (heldStatement x) → Adds (statementBytes x) (now (out .entry)) o r (now (out .exit))) ⌝ }
+{
+    let action = put_head(run, p, out, o);
     let a = places::behind_label(run, p);
     let actions = entries::put_list(0, run, a, out, action);
     let resource = sink::put_bytes(out, actions, b",\"Resource\":");

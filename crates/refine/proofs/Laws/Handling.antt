@@ -54,7 +54,7 @@ pub record Bound (s : Slot) : Type 0 where
   pub kind : slotKind s ≡ bounds leb most
   pub numeric : comparison (s .place) ≡ NumericLessThanEquals
 
-data Handled (s : Slot) : ℕ → Type 0 where
+pub data Handled (s : Slot) : ℕ → Type 0 where
   denied : s .effect ≡ Deny → Handled s 0
   alone : Alone s → Handled s 1
   wild : Wild s → Handled s 2
@@ -81,7 +81,7 @@ handled Allow (inRow NumericLessThanEquals) (text ys) =
 handled Allow (inRow NumericLessThanEquals) (number n) =
     bound (record { most = n; allows = refl; is = refl; kind = refl; numeric = refl })
 
-handles : (s : Slot) → Handled s (handling s)
+pub handles : (s : Slot) → Handled s (handling s)
 handles s = handled (s .effect) (s .place) (s .entry)
 
 -- a row that a text or a number never stands in
@@ -189,7 +189,7 @@ pub record TextRow (xs : List ℕ) : Type 0 where
   pub textual : Textual (contentOf xs)
   pub is : xs ≡ row (contentOf xs)
 
-made : (k : Kind) (xs : List ℕ) → isRow k xs ≡ true → isContent k (contentOf xs) ≡ true
+pub made : (k : Kind) (xs : List ℕ) → isRow k xs ≡ true → isContent k (contentOf xs) ≡ true
 unfolding isRow
 made k xs e = both-true (isContent k (contentOf xs)) (same (row (contentOf xs)) xs) e .0
 
@@ -231,11 +231,11 @@ number-row n xs e =
     by (holds (upTo m)) t = one-number
 
 -- of an entry that has itself alone
-data Mark : Content → Type 0 where
+pub data Mark : Content → Type 0 where
   no-mark : Mark empty
   a-mark : Mark (holds itself)
 
-mark-only : (m : Value → Bool) (xs : List ℕ) → isRow (only m) xs ≡ true → Mark (contentOf xs)
+pub mark-only : (m : Value → Bool) (xs : List ℕ) → isRow (only m) xs ≡ true → Mark (contentOf xs)
 mark-only m xs e = by (contentOf xs) (made (only m) xs e)
   where
     not-never : (b : Bool) → both b false ≡ true → ⊥

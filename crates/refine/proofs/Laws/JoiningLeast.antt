@@ -15,15 +15,15 @@ use Rattle.refine.specs.Rows.{textCharacters, row}
 use Rattle.refine.specs.Joining.{Textual, whole-text, one-text, begun-text, Texted}
 use Rattle.refine.proofs.Laws.FittingWild.{byTests, noWildcard, finalStar, kind-is}
 
-abbrev Short : Candidate → Type 0
+abbrev pub Short : Candidate → Type 0
 Short c = Textual (holds c)
 
-picked : (b : Bool) (c d : Candidate) → Short c → Short d → Short (pick b c d)
+pub picked : (b : Bool) (c d : Candidate) → Short c → Short d → Short (pick b c d)
 picked true c d s t = s
 picked false c d s t = t
 
 module _ (v : List ℕ) (h : length v ≤ textCharacters) where
-  longest-short : (wide : List ℕ → Bool) (n : ℕ) → Short (longestUpTo wide n v)
+  pub longest-short : (wide : List ℕ → Bool) (n : ℕ) → Short (longestUpTo wide n v)
   unfolding longestUpTo
   longest-short wide zero = whole-text
   longest-short wide (suc n) =

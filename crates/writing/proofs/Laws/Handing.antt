@@ -67,23 +67,22 @@ module _ (bs out : List ℕ) where
   handed-whole h k = rw (le-ltb resultBytes (length bs) h, le-ltb (length out) (length bs) k) refl
 
 -- what stands in a room that took the bytes
-module _ {w room after : List ℕ} {n : ℕ} (out : List ℕ) (a : Adds w room 0 n after) (size : length room ≡ resultBytes)
-  where
-    shows : Shows w n after
-    shows = a .adds [] (shows-none room size)
+pub shows-taken : {w room after : List ℕ} {n : ℕ} → Adds w room 0 n after → length room ≡ resultBytes → Shows w n after
+shows-taken {room = room} a size = a .adds [] (shows-none room size)
 
-    pub hand-long : resultBytes < n → (refused ResultLength, out) ≡ handed w out
-    hand-long h = handed-long w out (shows-over shows h)
+module _ {w room : List ℕ} {n : ℕ} (out : List ℕ) (shows : Shows w n room) where
+  pub hand-long : resultBytes < n → (refused ResultLength, out) ≡ handed w out
+  hand-long h = handed-long w out (shows-over shows h)
 
-    module _ (h : n ≤ resultBytes) where
-      abbrev length-is : length w ≡ n
-      length-is = shows-end shows h .0
+  module _ (h : n ≤ resultBytes) where
+    abbrev length-is : length w ≡ n
+    length-is = shows-end shows h .0
 
-      pub hand-short : length out < n → (refused OutputLength, out) ≡ handed w out
-      hand-short k = handed-short w out (omega (arith, length-is)) (omega (arith, length-is))
+    pub hand-short : length out < n → (refused OutputLength, out) ≡ handed w out
+    hand-short k = handed-short w out (omega (arith, length-is)) (omega (arith, length-is))
 
-      pub hand-whole : {exit : List ℕ} → n ≤ length out → exit ≡ lay (take n after) out → (known n, exit) ≡ handed w out
-      hand-whole {exit} k e =
-          let f : exit ≡ lay w out = e ∙ ap (λ (l : List ℕ). lay l out) (shows-end shows h .1) in
-          ap (λ (m : ℕ). (known m, exit)) (sym length-is) ∙ ap (λ (l : List ℕ). (known (length w), l)) f
-          ∙ handed-whole w out (omega (arith, length-is)) (omega (arith, length-is))
+    pub hand-whole : {exit : List ℕ} → n ≤ length out → exit ≡ lay (take n room) out → (known n, exit) ≡ handed w out
+    hand-whole {exit} k e =
+        let f : exit ≡ lay w out = e ∙ ap (λ (l : List ℕ). lay l out) (shows-end shows h .1) in
+        ap (λ (m : ℕ). (known m, exit)) (sym length-is) ∙ ap (λ (l : List ℕ). (known (length w), l)) f
+        ∙ handed-whole w out (omega (arith, length-is)) (omega (arith, length-is))

@@ -1,4 +1,5 @@
 -- What is added for entries, rows and statements that lie in a run.
+use Prim.{tt}
 use mathlib.Core.Path.{_≡_, refl, sym, ap, _∙_, subst}
 use mathlib.Core.Bool.{Bool, true, false}
 use mathlib.Core.List.{List, [], _∷_, _++_, map, append-assoc}
@@ -20,7 +21,7 @@ use Rattle.writing.specs.Showing.{Adds}
 use Rattle.writing.specs.Bytes.{name, between, listed, entryBody, turning, rowBytes, rowsFrom}
 use Rattle.writing.specs.Bytes.{conditionBytes}
 use Rattle.writing.proofs.Laws.Showing.{adds-none, adds-then, adds-as}
-use Rattle.writing.proofs.Laws.Telling.{Telling, Piece}
+use Rattle.writing.proofs.Laws.Telling.{Telling, Freely, Piece}
 
 -- ---- an entry between its quotes
 
@@ -53,33 +54,35 @@ module _ {run out after : List ℕ} {p o next : ℕ} (k : ℕ) where
 
 pub listed-piece :
     {A : Type 0} {h : A → List ℕ} (f : A → List ℕ) {run total out₀ out mid after : List ℕ} {o₀ n i p o o′ o″ q : ℕ}
-    (w : Telling h (listed f) run total out₀ o₀ n i p i out o) (x : A) → q ≡ p + length (h x)
-    → Adds (between i) out o o′ mid → Adds (f x) mid o′ o″ after → Piece w x q (i + 1) after o″
+    (w : Telling h (listed f) Freely run total out₀ o₀ n i p i out o) (x : A) (xs : List A) → q ≡ p + length (h x)
+    → Adds (between i) out o o′ mid → Adds (f x) mid o′ o″ after → Piece w x xs q (i + 1) after o″
 unfolding listed
-listed-piece f {i = i} w x e a b =
+listed-piece f {i = i} w x xs e a b =
     record {
       far = e;
       piece = between i ++ f x;
       adds = adds-then a b;
-      tells = λ xs. sym (append-assoc (between i) (f x) (listed f (suc i) xs))
+      tells = sym (append-assoc (between i) (f x) (listed f (suc i) xs))
           ∙ ap (λ (k : ℕ). (between i ++ f x) ++ listed f k xs) (sym (add-one i));
+      known = tt;
     }
 
 -- ---- one row, behind one of another operator
 
 pub row-piece :
     {run total out₀ out mid after : List ℕ} {o₀ n i p s o o′ o″ q k : ℕ}
-    (w : Telling heldRow rowsFrom run total out₀ o₀ n i p s out o) (x : Row) → q ≡ p + length (heldRow x)
-    → k ≡ operatorNumber (x .operator) → Adds (turning s k) out o o′ mid → Adds (rowBytes x) mid o′ o″ after
-    → Piece w x q k after o″
+    (w : Telling heldRow rowsFrom Freely run total out₀ o₀ n i p s out o) (x : Row) (xs : List Row)
+    → q ≡ p + length (heldRow x) → k ≡ operatorNumber (x .operator) → Adds (turning s k) out o o′ mid
+    → Adds (rowBytes x) mid o′ o″ after → Piece w x xs q k after o″
 unfolding rowsFrom
-row-piece {s = s} {k = k} w x e g a b =
+row-piece {s = s} {k = k} w x xs e g a b =
     record {
       far = e;
       piece = turning s k ++ rowBytes x;
       adds = adds-then a b;
-      tells = λ xs. ap (λ (j : ℕ). turning s j ++ (rowBytes x ++ rowsFrom j xs)) (sym g)
+      tells = ap (λ (j : ℕ). turning s j ++ (rowBytes x ++ rowsFrom j xs)) (sym g)
           ∙ sym (append-assoc (turning s k) (rowBytes x) (rowsFrom k xs));
+      known = tt;
     }
 
 pub condition-none :

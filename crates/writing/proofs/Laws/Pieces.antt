@@ -9,11 +9,13 @@ use lib.ListN.{length, getD}
 use borrow.Author.Tests.{eq-eqb, ne-eqb, lt-ltb, le-ltb}
 use Rattle.text.specs.Written.{written, writtenText}
 use Rattle.text.specs.Printing.{quoted}
-use Rattle.policy.specs.Words.{sidWord, effectWord, allowWord, denyWord}
+use Rattle.policy.specs.Policy.{Statement}
+use Rattle.policy.specs.Held.{effectNumber}
+use Rattle.policy.specs.Words.{sidWord, effectWord, actionWord, allowWord, denyWord}
 use Rattle.policy.specs.Words.{stringEqualsWord, stringLikeWord, numericLessThanEqualsWord}
 use Rattle.writing.specs.WrittenForm.{bare, isEscaped, spelling, digitsUpTo}
 use Rattle.writing.specs.Showing.{Adds}
-use Rattle.writing.specs.Bytes.{name, operatorName, ending, turning, sidBytes, effectBytes}
+use Rattle.writing.specs.Bytes.{name, operatorName, ending, turning, sidBytes, effectBytes, headBytes}
 use Rattle.writing.proofs.Laws.Showing.{adds-none, adds-as}
 
 -- ---- symbols
@@ -54,6 +56,9 @@ pub name-before : (w zs : List ℕ) → 34 ∷ (w ++ (34 ∷ 58 ∷ zs)) ≡ nam
 name-before w zs =
     ap (λ (l : List ℕ). 34 ∷ l)
     (sym (append-assoc (w ++ (34 ∷ [])) (58 ∷ []) zs ∙ append-assoc w (34 ∷ []) (58 ∷ zs)))
+
+pub name-alone : (w : List ℕ) → 34 ∷ (w ++ (34 ∷ 58 ∷ [])) ≡ name w
+name-alone w = name-before w [] ∙ append-nil (name w)
 
 pub quoted-before : (w zs : List ℕ) → 34 ∷ (w ++ (34 ∷ zs)) ≡ quoted w ++ zs
 quoted-before w zs = ap (λ (l : List ℕ). 34 ∷ l) (sym (append-assoc w (34 ∷ []) zs))
@@ -100,7 +105,17 @@ module _ (k o : ℕ) where
   turning-other s =
       rw (ne-eqb k o s) (ap (λ (l : List ℕ). ending k ++ l) (name-before (operatorName o) (123 ∷ [])))
 
--- ---- Sids
+-- ---- statements
+
+pub head-before :
+    (x : Statement) (zs : List ℕ)
+    → headBytes x ++ zs ≡ 123 ∷ (sidBytes (x .sid) ++
+    (effectBytes (effectNumber (x .effect)) ++ (name actionWord ++ zs)))
+unfolding headBytes
+head-before x zs =
+    let e = effectBytes (effectNumber (x .effect)) in
+    ap (λ (l : List ℕ). 123 ∷ l) (append-assoc (sidBytes (x .sid)) (e ++ name actionWord) zs
+    ∙ ap (λ (l : List ℕ). sidBytes (x .sid) ++ l) (append-assoc e (name actionWord) zs))
 
 pub sid-none : (cs : List ℕ) {at : ℕ} {out : List ℕ} → length cs ≡ 0 → Adds (sidBytes cs) out at at out
 sid-none [] {at} {out} e = adds-none out at

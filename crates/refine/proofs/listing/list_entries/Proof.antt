@@ -10,22 +10,22 @@ use Rattle.refine.proofs.listing.list_entries.Statement.{statement}
 use Rattle.refine.proofs.listing.list_entries.Tie as tie
 
 abbrev Inv-loop : tie.InvT-loop
-Inv-loop effect place run at request v dir₀ o n next₀ e₀ i₀ dir next e i =
-    EntriesWalks effect place run at request v dir₀ o n i e dir next
+Inv-loop effect place run at request v dir₀ o many next₀ e₀ i₀ dir next e i =
+    EntriesWalks effect place run at request v dir₀ o many i e dir next
 
 abbrev μ-loop : tie.MeasureT-loop
-μ-loop effect place run at request v dir₀ o n next₀ e₀ i₀ dir next e i = n - i
+μ-loop effect place run at request v dir₀ o many next₀ e₀ i₀ dir next e i = many - i
 
-mul-n : tie.Need-mul-n Inv-loop μ-loop
-mul-n c = search needs
+mul-many : tie.Need-mul-many Inv-loop μ-loop
+mul-many c = search needs
 
-shared-slice-read-n : tie.Need-shared-slice-read-n Inv-loop μ-loop
-shared-slice-read-n c =
+shared-slice-read-many : tie.Need-shared-slice-read-many Inv-loop μ-loop
+shared-slice-read-many c =
     let start = c .before .before .before .before in
     lies-inside (start .pre .2 .lies)
 
-cast-n : tie.Need-cast-n Inv-loop μ-loop
-cast-n c =
+cast-many : tie.Need-cast-many Inv-loop μ-loop
+cast-many c =
     let start = c .before .before .before .before in
     omega (arith, c .shared-slice-known3 .given (start .args .at))
 
@@ -109,9 +109,9 @@ list-entries-spec =
     (tie.spec
     Inv-loop
     μ-loop
-    mul-n
-    shared-slice-read-n
-    cast-n
+    mul-many
+    shared-slice-read-many
+    cast-many
     add-e
     loop-holds
     handling-requires

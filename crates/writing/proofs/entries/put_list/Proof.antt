@@ -1,12 +1,14 @@
 -- Each turn puts one entry behind those before it; whichever entries lie at the place are the ones put.
+use Prim.{tt}
 use mathlib.Core.Path.{refl, _∙_}
 use Prim.Native.Nat.{_+_, _-_}
 use native.Mathlib.Omega.{arith}
 use Rattle.policy.specs.Held.{heldValue}
-use Rattle.policy.proofs.Laws.Runs.{lies-first, lies-inside, lies-next, lies-short, list-lying}
+use Rattle.policy.proofs.Laws.Runs.{lies-inside}
 use Rattle.writing.specs.Bytes.{listed, entryBytes, listBytes}
 use Rattle.writing.proofs.Laws.Showing.{adds-then}
-use Rattle.writing.proofs.Laws.Telling.{Tellings, telling-start, telling-lying, telling-next, telling-end}
+use Rattle.writing.proofs.Laws.Telling.{Tellings, Freely, telling-start, telling-lying, telling-next}
+use Rattle.writing.proofs.Laws.Telling.{telling-end, list-told}
 use Rattle.writing.proofs.Laws.Lying.{listed-piece}
 use borrow.Author.Needs.{needs}
 use Rattle.writing.proofs.entries.put_list.Statement.{statement}
@@ -14,7 +16,7 @@ use Rattle.writing.proofs.entries.put_list.Tie as tie
 
 abbrev Inv-loop : tie.InvT-loop
 Inv-loop kind run at out₀ o n next₀ e₀ i₀ out next e i =
-    Tellings heldValue (listed (entryBytes kind)) run (at + 1) out₀ next₀ n i e i out next
+    Tellings heldValue (listed (entryBytes kind)) Freely 0 run (at + 1) out₀ next₀ n i e i out next
 
 abbrev μ-loop : tie.MeasureT-loop
 μ-loop kind run at out₀ o n next₀ e₀ i₀ out next e i = n - i
@@ -37,7 +39,7 @@ add-e c =
     omega (arith, lies-inside (start .pre .lies), start .pre .lies .bounded)
 
 loop-holds : tie.Need-loop-holds Inv-loop μ-loop
-loop-holds c = λ xs k l. telling-start xs k l
+loop-holds c = λ xs k l u. telling-start xs k l u
 
 put-between-requires : tie.Need-put-between-requires Inv-loop μ-loop
 put-between-requires c κs = search needs
@@ -47,7 +49,7 @@ put-entry-requires c κs =
     let at-loop-test = c .before .before .before .before .before in
     let at-loop = at-loop-test .before in
     let start = at-loop .before .before .before .before .before .before .before .before in
-    telling-lying (let y = list-lying (start .pre) in at-loop .loop .inv (y .things) (y .count) (y .lies))
+    telling-lying (list-told (start .pre .thing) (start .pre .lies) tt (at-loop .loop .inv))
     (at-loop-test .loop-test .taken)
 
 past-value-requires : tie.Need-past-value-requires Inv-loop μ-loop
@@ -55,7 +57,7 @@ past-value-requires c κs =
     let at-loop-test = c .before .before .before .before .before .before .before .before in
     let at-loop = at-loop-test .before in
     let start = at-loop .before .before .before .before .before .before .before .before in
-    telling-lying (let y = list-lying (start .pre) in at-loop .loop .inv (y .things) (y .count) (y .lies))
+    telling-lying (list-told (start .pre .thing) (start .pre .lies) tt (at-loop .loop .inv))
     (at-loop-test .loop-test .taken)
 
 add-i : tie.Need-add-i Inv-loop μ-loop
@@ -79,8 +81,8 @@ loop-again c =
     let at-put-between = at-put-entry .before .before .before .before in
     let at-loop-test = at-put-between .before .before in
     let at-loop = at-loop-test .before in
-    λ xs k l. telling-next (at-loop .loop .inv xs k l) (at-loop-test .loop-test .taken) _ _ _ _
-    (λ x m. listed-piece _ (at-loop .loop .inv xs k l) x (c .past-value .ensures x m)
+    λ xs k l _. telling-next (at-loop .loop .inv xs k l tt) (at-loop-test .loop-test .taken) _ _ _ _
+    (λ x ys m _. listed-piece _ (at-loop .loop .inv xs k l tt) x ys (c .past-value .ensures x m)
     (at-put-between .put-between .ensures) (at-put-entry .put-entry .ensures x m))
 
 put-requires-2 : tie.Need-put-requires-2 Inv-loop μ-loop
@@ -92,8 +94,8 @@ same-length c =
     let at-loop = at-put2 .before .before .before in
     let at-put = at-loop .before .before .before in
     let start = at-put .before .before .before .before .before in
-    at-put2 .put2 .ensures .size ∙ (let y = list-lying (start .pre) in at-loop .loop .inv (y .things) (y .count)
-    (y .lies)) .adds .size ∙ at-put .put .ensures .size
+    at-put2 .put2 .ensures .size ∙ (list-told (start .pre .thing) (start .pre .lies) tt
+    (at-loop .loop .inv)) .adds .size ∙ at-put .put .ensures .size
 
 returns : tie.Need-returns Inv-loop μ-loop
 unfolding listBytes listed
@@ -103,7 +105,7 @@ returns c =
     let at-loop = at-loop-test .before in
     let at-put = at-loop .before .before .before in
     λ xs l. adds-then (at-put .put .ensures)
-    (adds-then (telling-end (at-loop .loop .inv xs (lies-first l) (lies-next l)) (at-loop-test .loop-test .left) refl)
+    (adds-then (telling-end (list-told xs l tt (at-loop .loop .inv)) (at-loop-test .loop-test .left) refl)
     (at-put2 .put2 .ensures))
 
 pub put-list-spec : {M : Type 1} → statement M

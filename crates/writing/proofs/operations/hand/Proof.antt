@@ -1,7 +1,6 @@
--- What the room shows in the end is the written form, or that it was too much.
+-- The room shows the written form in the end, or that it was too much.
 use mathlib.Core.Path.{refl}
-use native.Mathlib.Omega.{arith}
-use Rattle.writing.proofs.Laws.Handing.{hand-long, hand-short, hand-whole}
+use Rattle.writing.proofs.Laws.Handing.{shows-taken}
 use borrow.Author.Needs.{needs}
 use Rattle.writing.proofs.operations.hand.Statement.{statement}
 use Rattle.writing.proofs.operations.hand.Tie as tie
@@ -10,44 +9,22 @@ slice-aggregate-put-policy : tie.Need-slice-aggregate-put-policy
 slice-aggregate-put-policy c = search needs
 
 put-policy-requires : tie.Need-put-policy-requires
-put-policy-requires c κs = c .before .before .before .pre
+put-policy-requires c κs = search needs
 
-returns : tie.Need-returns
-returns c = λ x l. hand-long _ (c .before .before .put-policy .ensures x l) refl (c .if1 .taken)
+slice-aggregate-deliver : tie.Need-slice-aggregate-deliver
+slice-aggregate-deliver c = search needs
 
-returns-2 : tie.Need-returns-2
-returns-2 c =
-    λ x l. hand-short _ (c .before .before .before .put-policy .ensures x l) refl (c .before .if1 .left) (c .if2 .taken)
-
-slice-aggregate-copy : tie.Need-slice-aggregate-copy
-slice-aggregate-copy c = search needs
-
-copy-requires : tie.Need-copy-requires
-copy-requires c κs =
-    let at-if2 = c .before .before in
-    let at-if1 = at-if2 .before in
-    let at-put-policy = at-if1 .before .before in
-    let start = at-put-policy .before .before .before .before in (
-      omega (
-        arith,
-        at-if1 .if1 .left,
-        at-put-policy .put-policy .ensures (start .pre .thing) (start .pre .lies)
-            .size,
-      ),
-      at-if2 .if2 .left,
-    )
+deliver-requires : tie.Need-deliver-requires
+deliver-requires c κs = search needs
 
 same-length : tie.Need-same-length
 same-length c = search needs
 
-returns-3 : tie.Need-returns-3
-returns-3 c =
-    let at-copy = c .before .before in
-    let at-if2 = at-copy .before .before .before in
-    let at-if1 = at-if2 .before in
-    let at-put-policy = at-if1 .before .before in
-    λ x l. hand-whole _ (at-put-policy .put-policy .ensures x l) refl (at-if1 .if1 .left) (at-if2 .if2 .left)
-    (at-copy .copy .ensures)
+returns : tie.Need-returns
+returns c =
+    let at-deliver = c .before .before in
+    let at-put-policy = at-deliver .before .before .before .before in
+    λ x l. at-deliver .deliver .ensures _ (shows-taken (at-put-policy .put-policy .ensures x l) refl)
 
 pub hand-spec : {M : Type 1} → statement M
 hand-spec =
@@ -55,9 +32,7 @@ hand-spec =
     (tie.spec
     slice-aggregate-put-policy
     put-policy-requires
-    returns
-    returns-2
-    slice-aggregate-copy
-    copy-requires
+    slice-aggregate-deliver
+    deliver-requires
     same-length
-    returns-3)
+    returns)

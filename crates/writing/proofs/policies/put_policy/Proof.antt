@@ -1,13 +1,15 @@
 -- Each turn puts one statement behind those before it.
+use Prim.{tt}
 use mathlib.Core.Path.{refl, _∙_}
 use Prim.Native.Nat.{_-_}
 use native.Mathlib.Omega.{arith}
-use Rattle.policy.specs.Held.{heldStatement, held}
+use Rattle.policy.specs.Held.{heldStatement}
 use Rattle.writing.specs.Bytes.{listed, statementBytes}
 use Rattle.writing.proofs.Laws.Showing.{adds-as, adds-then}
-use Rattle.writing.proofs.Laws.Telling.{Tellings, telling-start, telling-lying, telling-next, telling-end}
+use Rattle.writing.proofs.Laws.Telling.{Tellings, Freely, telling-start, telling-lying, telling-next}
+use Rattle.writing.proofs.Laws.Telling.{telling-end, list-told}
 use Rattle.writing.proofs.Laws.Lying.{listed-piece, policy-list, policy-lies}
-use Rattle.policy.proofs.Laws.Runs.{lies-first, lies-inside, lies-next, list-lying}
+use Rattle.policy.proofs.Laws.Runs.{lies-inside}
 use Rattle.writing.proofs.Laws.BytesPolicy.{policy-bytes}
 use borrow.Author.Needs.{needs}
 use Rattle.writing.proofs.policies.put_policy.Statement.{statement}
@@ -15,7 +17,7 @@ use Rattle.writing.proofs.policies.put_policy.Tie as tie
 
 abbrev Inv-loop : tie.InvT-loop
 Inv-loop run out₀ n next₀ p₀ i₀ t9 out next p i =
-    Tellings heldStatement (listed statementBytes) run 1 out₀ next₀ n i p i out next
+    Tellings heldStatement (listed statementBytes) Freely 0 run 1 out₀ next₀ n i p i out next
 
 abbrev μ-loop : tie.MeasureT-loop
 μ-loop run out₀ n next₀ p₀ i₀ t9 out next p i = n - i
@@ -33,7 +35,7 @@ put-bytes-requires : tie.Need-put-bytes-requires Inv-loop μ-loop
 put-bytes-requires c κs = search needs
 
 loop-holds : tie.Need-loop-holds Inv-loop μ-loop
-loop-holds c = λ xs k l. telling-start xs k l
+loop-holds c = λ xs k l u. telling-start xs k l u
 
 put-between-requires : tie.Need-put-between-requires Inv-loop μ-loop
 put-between-requires c κs = search needs
@@ -43,16 +45,16 @@ put-statement-requires c κs =
     let at-loop-test = c .before .before .before .before .before in
     let at-loop = at-loop-test .before in
     let start = at-loop .before .before .before .before .before .before .before .before .before in
-    telling-lying (let y = list-lying (policy-list (start .pre)) in at-loop .loop .inv (y .things) (y .count)
-    (y .lies)) (at-loop-test .loop-test .taken)
+    telling-lying (list-told (start .pre .thing) (policy-lies (start .pre .thing) (start .pre .lies)) tt
+    (at-loop .loop .inv)) (at-loop-test .loop-test .taken)
 
 statement-requires : tie.Need-statement-requires Inv-loop μ-loop
 statement-requires c κs =
     let at-loop-test = c .before .before .before .before .before .before .before .before in
     let at-loop = at-loop-test .before in
     let start = at-loop .before .before .before .before .before .before .before .before .before in
-    telling-lying (let y = list-lying (policy-list (start .pre)) in at-loop .loop .inv (y .things) (y .count)
-    (y .lies)) (at-loop-test .loop-test .taken)
+    telling-lying (list-told (start .pre .thing) (policy-lies (start .pre .thing) (start .pre .lies)) tt
+    (at-loop .loop .inv)) (at-loop-test .loop-test .taken)
 
 add-i : tie.Need-add-i Inv-loop μ-loop
 add-i c =
@@ -69,8 +71,8 @@ loop-again c =
     let at-put-between = at-put-statement .before .before .before .before in
     let at-loop-test = at-put-between .before .before in
     let at-loop = at-loop-test .before in
-    λ xs k l. telling-next (at-loop .loop .inv xs k l) (at-loop-test .loop-test .taken) _ _ _ _
-    (λ x m. listed-piece _ (at-loop .loop .inv xs k l) x (c .statement .ensures x m .past)
+    λ xs k l _. telling-next (at-loop .loop .inv xs k l tt) (at-loop-test .loop-test .taken) _ _ _ _
+    (λ x ys m _. listed-piece _ (at-loop .loop .inv xs k l tt) x ys (c .statement .ensures x m .past)
     (at-put-between .put-between .ensures) (at-put-statement .put-statement .ensures x m))
 
 slice-aggregate-put-bytes-2 : tie.Need-slice-aggregate-put-bytes-2 Inv-loop μ-loop
@@ -86,7 +88,8 @@ same-length c =
     let at-put-bytes = at-loop .before .before .before in
     let start = at-put-bytes .before .before .before .before .before .before in
     at-put-bytes2 .put-bytes2 .ensures .size ∙
-    (let y = list-lying (policy-list (start .pre)) in at-loop .loop .inv (y .things) (y .count) (y .lies)) .adds .size
+    (list-told (start .pre .thing) (policy-lies (start .pre .thing) (start .pre .lies)) tt
+    (at-loop .loop .inv)) .adds .size
     ∙ at-put-bytes .put-bytes .ensures .size
 
 returns : tie.Need-returns Inv-loop μ-loop
@@ -99,7 +102,7 @@ returns c =
     λ xs l.
     let m = policy-lies xs l in
     adds-as (policy-bytes xs) (adds-then (at-put-bytes .put-bytes .ensures)
-    (adds-then (telling-end (at-loop .loop .inv xs (lies-first m) (lies-next m)) (at-loop-test .loop-test .left) refl)
+    (adds-then (telling-end (list-told xs m tt (at-loop .loop .inv)) (at-loop-test .loop-test .left) refl)
     (at-put-bytes2 .put-bytes2 .ensures)))
 
 pub put-policy-spec : {M : Type 1} → statement M

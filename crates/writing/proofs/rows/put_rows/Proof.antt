@@ -1,12 +1,14 @@
 -- Each turn puts one row behind those before it.
+use Prim.{tt}
 use mathlib.Core.Path.{refl}
 use Prim.Native.Nat.{_+_, _-_}
 use native.Mathlib.Omega.{arith}
 use Rattle.policy.specs.Held.{heldRow}
-use Rattle.policy.proofs.Laws.Runs.{lies-first, lies-inside, lies-next, list-lying}
+use Rattle.policy.proofs.Laws.Runs.{lies-inside}
 use Rattle.policy.proofs.Laws.Parts.{row-inside, row-operator}
 use Rattle.writing.specs.Bytes.{rowsFrom}
-use Rattle.writing.proofs.Laws.Telling.{Tellings, telling-start, telling-lying, telling-next, telling-end}
+use Rattle.writing.proofs.Laws.Telling.{Tellings, Freely, telling-start, telling-lying, telling-next}
+use Rattle.writing.proofs.Laws.Telling.{telling-end, list-told}
 use Rattle.writing.proofs.Laws.Lying.{row-piece}
 use borrow.Author.Needs.{needs}
 use Rattle.writing.proofs.rows.put_rows.Statement.{statement}
@@ -14,7 +16,7 @@ use Rattle.writing.proofs.rows.put_rows.Tie as tie
 
 abbrev Inv-loop : tie.InvT-loop
 Inv-loop run at out₀ o n next₀ last₀ p₀ i₀ out next last p i =
-    Tellings heldRow rowsFrom run (at + 1) out₀ next₀ n i p last out next
+    Tellings heldRow rowsFrom Freely 0 run (at + 1) out₀ next₀ n i p last out next
 
 abbrev μ-loop : tie.MeasureT-loop
 μ-loop run at out₀ o n next₀ last₀ p₀ i₀ out next last p i = n - i
@@ -33,13 +35,13 @@ add-p c =
     omega (arith, lies-inside (c .before .before .before .pre .lies), c .before .before .before .pre .lies .bounded)
 
 loop-holds : tie.Need-loop-holds Inv-loop μ-loop
-loop-holds c = λ xs k l. telling-start xs k l
+loop-holds c = λ xs k l u. telling-start xs k l u
 
 mul-put-turning : tie.Need-mul-put-turning Inv-loop μ-loop
 mul-put-turning c =
     let at-loop = c .before .before in
     let start = at-loop .before .before .before .before in
-    let r = telling-lying (let y = list-lying (start .pre) in at-loop .loop .inv (y .things) (y .count) (y .lies))
+    let r = telling-lying (list-told (start .pre .thing) (start .pre .lies) tt (at-loop .loop .inv))
     (c .before .loop-test .taken) in
     omega (arith, row-inside (r .thing) (r .lies), r .lies .bounded)
 
@@ -48,7 +50,7 @@ shared-slice-read-put-turning c =
     let at-loop-test = c .before .before in
     let at-loop = at-loop-test .before in
     let start = at-loop .before .before .before .before in
-    let r = telling-lying (let y = list-lying (start .pre) in at-loop .loop .inv (y .things) (y .count) (y .lies))
+    let r = telling-lying (list-told (start .pre .thing) (start .pre .lies) tt (at-loop .loop .inv))
     (at-loop-test .loop-test .taken) in
     row-inside (r .thing) (r .lies)
 
@@ -60,7 +62,7 @@ put-row-requires c κs =
     let at-loop-test = c .before .before .before .before .before .before in
     let at-loop = at-loop-test .before in
     let start = at-loop .before .before .before .before in
-    telling-lying (let y = list-lying (start .pre) in at-loop .loop .inv (y .things) (y .count) (y .lies))
+    telling-lying (list-told (start .pre .thing) (start .pre .lies) tt (at-loop .loop .inv))
     (at-loop-test .loop-test .taken)
 
 mul-last : tie.Need-mul-last Inv-loop μ-loop
@@ -68,7 +70,7 @@ mul-last c =
     let at-loop-test = c .before .before .before .before .before .before .before .before .before in
     let at-loop = at-loop-test .before in
     let start = at-loop .before .before .before .before in
-    let r = telling-lying (let y = list-lying (start .pre) in at-loop .loop .inv (y .things) (y .count) (y .lies))
+    let r = telling-lying (list-told (start .pre .thing) (start .pre .lies) tt (at-loop .loop .inv))
     (at-loop-test .loop-test .taken) in
     omega (arith, row-inside (r .thing) (r .lies), r .lies .bounded)
 
@@ -77,7 +79,7 @@ shared-slice-read-last c =
     let at-loop-test = c .before .before .before .before .before .before .before .before .before .before in
     let at-loop = at-loop-test .before in
     let start = at-loop .before .before .before .before in
-    let r = telling-lying (let y = list-lying (start .pre) in at-loop .loop .inv (y .things) (y .count) (y .lies))
+    let r = telling-lying (list-told (start .pre .thing) (start .pre .lies) tt (at-loop .loop .inv))
     (at-loop-test .loop-test .taken) in
     row-inside (r .thing) (r .lies)
 
@@ -86,7 +88,7 @@ row-requires c κs =
     let at-loop-test = c .before .before .before .before .before .before .before .before .before .before in
     let at-loop = at-loop-test .before in
     let start = at-loop .before .before .before .before in
-    telling-lying (let y = list-lying (start .pre) in at-loop .loop .inv (y .things) (y .count) (y .lies))
+    telling-lying (list-told (start .pre .thing) (start .pre .lies) tt (at-loop .loop .inv))
     (at-loop-test .loop-test .taken)
 
 add-i : tie.Need-add-i Inv-loop μ-loop
@@ -110,18 +112,18 @@ loop-again c =
     let at-put-turning = at-put-row .before .before .before .before in
     let at-loop-test = at-put-turning .before .before .before in
     let at-loop = at-loop-test .before in
-    λ xs k l. telling-next (at-loop .loop .inv xs k l) (at-loop-test .loop-test .taken) _ _ _ _
-    (λ x m. row-piece (at-loop .loop .inv xs k l) x (c .row .ensures x m .past) (row-operator x m)
+    λ xs k l _. telling-next (at-loop .loop .inv xs k l tt) (at-loop-test .loop-test .taken) _ _ _ _
+    (λ x ys m _. row-piece (at-loop .loop .inv xs k l tt) x ys (c .row .ensures x m .past) (row-operator x m)
     (at-put-turning .put-turning .ensures) (at-put-row .put-row .ensures x m))
 
 same-length : tie.Need-same-length Inv-loop μ-loop
 same-length c =
     let start = c .before .before .before .before .before in
-    (let y = list-lying (start .pre) in c .before .loop .inv (y .things) (y .count) (y .lies)) .adds .size
+    (list-told (start .pre .thing) (start .pre .lies) tt (c .before .loop .inv)) .adds .size
 
 returns : tie.Need-returns Inv-loop μ-loop
 unfolding rowsFrom
-returns c = λ xs l. telling-end (c .before .loop .inv xs (lies-first l) (lies-next l)) (c .loop-test .left) refl
+returns c = λ xs l. telling-end (list-told xs l tt (c .before .loop .inv)) (c .loop-test .left) refl
 
 pub put-rows-spec : {M : Type 1} → statement M
 put-rows-spec =
