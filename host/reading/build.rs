@@ -1,8 +1,5 @@
-//! Links the proved readers of policies and records, Decide and Restate.
+//! Links the proved readers of policies and records.
 
 fn main() {
-    archive::link(
-        "policy_probe",
-        &["text", "policy", "decision", "writing", "policy_probe"],
-    );
+    archive::link("policy_probe", &["text", "policy", "policy_probe"]);
 }

@@ -27,11 +27,13 @@ pub fn link(library: &str, made_from: &[&str]) {
     }
 }
 
-/// Packages stand two folders below the root.
+/// The folder above the package that has the list of crates.
 fn repository_root() -> PathBuf {
     let package = PathBuf::from(variable("CARGO_MANIFEST_DIR"));
-    let root = package.join("../..").canonicalize();
-    root.expect("two folders up")
+    let root = package
+        .ancestors()
+        .find(|folder| folder.join(CRATES).is_file());
+    root.expect("packages stand below the root").to_path_buf()
 }
 
 fn variable(name: &str) -> String {

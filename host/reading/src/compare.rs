@@ -1,15 +1,12 @@
-//! Both implementations of the scan, of reading and of Restate on files that
-//! others wrote: each file, and each line of a log, is one text.
+//! Both implementations of the scan and of reading on files that others wrote:
+//! each file, and each line of a log, is one text.
 
-use crate::{read_policy, read_record, restate};
-use second::{layouts, Refusal};
+use crate::{read_policy, read_record};
+use second::layouts;
 use std::fmt::Debug;
 use std::fs;
 use std::io;
 use std::path::{Path, PathBuf};
-
-/// No result is longer.
-const RESULT_BYTES: usize = 6_144;
 
 /// How many texts were read, and a line for each answer in which the two
 /// differ.
@@ -20,17 +17,12 @@ pub struct Comparison {
 }
 
 impl Comparison {
-    /// Every text is scanned, read as a policy and as a record, and restated.
+    /// Every text is scanned, and read as a policy and as a record.
     fn add(&mut self, name: &str, text: &[u8]) {
         self.texts += 1;
         self.answers(name, probe::scan(text), second::scan(text));
         self.answers(name, read_policy(text), layouts::read_policy(text));
         self.answers(name, read_record(text), layouts::read_record(text));
-        self.answers(
-            name,
-            restated(text, restate),
-            restated(text, second::restate),
-        );
     }
 
     fn answers<T: PartialEq + Debug>(&mut self, name: &str, proved: T, second: T) {
@@ -39,15 +31,6 @@ impl Comparison {
             self.differences.push(line);
         }
     }
-}
-
-type Restate = fn(&[u8], &mut [u8]) -> Result<usize, Refusal>;
-
-/// What is written, in ASCII.
-fn restated(text: &[u8], restate: Restate) -> Result<String, Refusal> {
-    let mut output = vec![0; RESULT_BYTES];
-    let count = restate(text, &mut output)?;
-    Ok(output[..count].escape_ascii().to_string())
 }
 
 /// Compares on every file below a folder, and every line of each log.

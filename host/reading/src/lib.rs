@@ -1,6 +1,5 @@
-//! The proved readers of policies and records, Decide and Restate, behind safe
-//! functions, with the types of the second implementation, so that answers are
-//! compared by `==`.
+//! The proved readers of policies and records behind safe functions, with the
+//! types of the second implementation, so that answers are compared by `==`.
 //!
 //! For tests only; the product does not link this.
 
@@ -12,9 +11,9 @@ mod linked;
 
 pub use compare::{compare, Comparison};
 use held::Misheld;
-use linked::{Judged, Told};
+use linked::Told;
 use second::layouts::{Policy, Record};
-use second::{Decision, Outcome, Refusal};
+use second::Refusal;
 
 /// The only length of a run that is not refused.
 pub const RUN_NUMBERS: usize = 16_384;
@@ -42,16 +41,6 @@ pub fn read_record(text: &[u8]) -> Result<Record, Refusal> {
     read(text, hold_record, held::record)
 }
 
-/// What the proved Decide answers.
-pub fn decide(policy: &[u8], record: &[u8]) -> Result<Decision, Refusal> {
-    linked::decide(policy, record).decision()
-}
-
-/// What the proved Restate answers; it writes to the output's first bytes.
-pub fn restate(policy: &[u8], output: &mut [u8]) -> Result<usize, Refusal> {
-    linked::restate(policy, output).count()
-}
-
 fn read<T>(
     text: &[u8],
     hold: fn(&[u8], &mut [u32]) -> Result<usize, Refusal>,
@@ -77,31 +66,6 @@ impl Told {
         }
         assert_eq!(count, 0, "a refusal counts something");
         Err(refused(refusal, place))
-    }
-}
-
-impl Judged {
-    /// A refusal decides nothing, and a decision has no place.
-    fn decision(&self) -> Result<Decision, Refusal> {
-        let Judged {
-            refusal,
-            place,
-            decision,
-            statement,
-        } = *self;
-        if refusal != 0 {
-            assert_eq!((decision, statement), (0, 0), "a refusal decides something");
-            return Err(refused(refusal, place));
-        }
-        assert_eq!(place, 0, "a decision has a place");
-        let outcome = match decision {
-            1 => Outcome::Allowed,
-            2 => Outcome::ExplicitlyDenied,
-            3 => Outcome::ImplicitlyDenied,
-            other => panic!("no decision has the number {other}"),
-        };
-        let statement = u32::try_from(statement).expect("statements go up to 16");
-        Ok(Decision { outcome, statement })
     }
 }
 

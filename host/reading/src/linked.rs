@@ -16,33 +16,10 @@ pub struct Told {
     pub count: usize,
 }
 
-/// `Judged` of crates/policy_probe, likewise.
-#[repr(C)]
-pub struct Judged {
-    pub refusal: u64,
-    pub place: usize,
-    pub decision: u64,
-    pub statement: usize,
-}
-
 extern "C" {
     fn policy_probe_policy(bytes: *const u8, length: usize, run: *mut u32, room: usize) -> Told;
 
     fn policy_probe_record(bytes: *const u8, length: usize, run: *mut u32, room: usize) -> Told;
-
-    fn policy_probe_decide(
-        policy: *const u8,
-        policy_length: usize,
-        record: *const u8,
-        record_length: usize,
-    ) -> Judged;
-
-    fn policy_probe_restate(
-        policy: *const u8,
-        policy_length: usize,
-        output: *mut u8,
-        room: usize,
-    ) -> Told;
 }
 
 pub fn policy(text: &[u8], run: &mut [u32]) -> Told {
@@ -55,21 +32,4 @@ pub fn policy(text: &[u8], run: &mut [u32]) -> Told {
 pub fn record(text: &[u8], run: &mut [u32]) -> Told {
     // SAFETY: as in `policy`.
     unsafe { policy_probe_record(text.as_ptr(), text.len(), run.as_mut_ptr(), run.len()) }
-}
-
-pub fn decide(policy: &[u8], record: &[u8]) -> Judged {
-    // SAFETY: as in `policy`; both are only read.
-    unsafe { policy_probe_decide(policy.as_ptr(), policy.len(), record.as_ptr(), record.len()) }
-}
-
-pub fn restate(policy: &[u8], output: &mut [u8]) -> Told {
-    // SAFETY: as in `policy`, with an output of bytes.
-    unsafe {
-        policy_probe_restate(
-            policy.as_ptr(),
-            policy.len(),
-            output.as_mut_ptr(),
-            output.len(),
-        )
-    }
 }

@@ -1,6 +1,6 @@
-//! Faults that the unit tests switch on, to see that the trials notice them.
+//! Faults that tests switch on, to see that the trials notice them.
 //!
-//! Outside the unit tests no fault can be on, and the question is a constant
+//! Without the feature `faults` none can be on, and the question is a constant
 //! that the compiler removes.
 
 #[derive(Debug, Clone, Copy, PartialEq, Eq)]
@@ -17,16 +17,16 @@ pub enum Fault {
     MissingKeyHolds,
 }
 
-#[cfg(not(test))]
+#[cfg(not(feature = "faults"))]
 #[inline(always)]
 pub const fn is_on(_: Fault) -> bool {
     false
 }
 
-#[cfg(test)]
+#[cfg(feature = "faults")]
 pub use switch::{is_on, with};
 
-#[cfg(test)]
+#[cfg(feature = "faults")]
 mod switch {
     use super::Fault;
     use std::cell::Cell;

@@ -15,6 +15,8 @@
 #![forbid(unsafe_code)]
 
 pub mod corpus;
+#[cfg(feature = "faults")]
+pub mod fault;
 pub mod generate;
 pub mod implementation;
 pub mod layouts;
@@ -23,6 +25,7 @@ pub mod properties;
 
 mod candidates;
 mod decision;
+#[cfg(not(feature = "faults"))]
 mod fault;
 mod forms;
 mod json;
@@ -41,9 +44,6 @@ mod scanner;
 mod strings;
 mod symbols;
 mod written_form;
-
-#[cfg(test)]
-mod trials;
 
 pub use decision::{Decision, Outcome};
 pub use json::{scan, Scan};

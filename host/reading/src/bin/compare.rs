@@ -1,5 +1,5 @@
-//! Runs the proved scan, the proved readers of policies and of records, the
-//! proved Restate, and the second implementation's on your own data.
+//! Runs the proved scan, the proved readers of policies and of records, and the
+//! second implementation's on your own data.
 //!
 //! ```text
 //! compare FOLDER [LOG ..]   every file below a folder, every line of each log

@@ -1,64 +1,26 @@
-//! Both implementations on one text, or on a policy and a record.
+//! Both implementations on one text.
 
 use second::layouts::{self, Policy, Record};
-use second::{Decision, Refusal};
+use second::Refusal;
 use std::fmt::Debug;
 
 /// What both readers say of a policy text.
 pub fn policy(text: &[u8]) -> Result<Policy, Refusal> {
     let answers = [reading::read_policy(text), layouts::read_policy(text)];
-    same(&[text], answers)
+    same(text, answers)
 }
 
 /// What both readers say of a record.
 pub fn record(text: &[u8]) -> Result<Record, Refusal> {
     let answers = [reading::read_record(text), layouts::read_record(text)];
-    same(&[text], answers)
+    same(text, answers)
 }
 
-/// What both decide.
-pub fn decide(policy: &[u8], record: &[u8]) -> Result<Decision, Refusal> {
-    let answers = [
-        reading::decide(policy, record),
-        second::decide(policy, record),
-    ];
-    same(&[policy, record], answers)
-}
-
-/// What both write to an output of this length. A result touches only the first
-/// bytes, a refusal none.
-pub fn restate(policy: &[u8], length: usize) -> Result<Vec<u8>, Refusal> {
-    let before: Vec<u8> = (0..length).map(untouched).collect();
-    let run = |restate: fn(&[u8], &mut [u8]) -> Result<usize, Refusal>| {
-        let mut output = before.clone();
-        let answer = restate(policy, &mut output);
-        (answer, output)
-    };
-    let (answer, mut output) = same(&[policy], [run(reading::restate), run(second::restate)]);
-    let count = answer.unwrap_or(0);
-    assert!(output[count..] == before[count..], "{}", shown(&[policy]));
-    output.truncate(count);
-    answer.map(|_| output)
-}
-
-/// What a place of an output holds before a call: no byte of ASCII, so nothing
-/// that is written.
-fn untouched(place: usize) -> u8 {
-    0x80 | (place % 113) as u8
-}
-
-fn same<T: PartialEq + Debug>(texts: &[&[u8]], [proved, second]: [T; 2]) -> T {
+fn same<T: PartialEq + Debug>(text: &[u8], [proved, second]: [T; 2]) -> T {
     assert!(
         proved == second,
         "the proved one says {proved:?}, the second {second:?}, of {}",
-        shown(texts)
+        text.escape_ascii()
     );
     proved
-}
-
-pub fn shown(texts: &[&[u8]]) -> String {
-    let texts = texts
-        .iter()
-        .map(|text| format!("\"{}\"", text.escape_ascii()));
-    texts.collect::<Vec<_>>().join(" and ")
 }

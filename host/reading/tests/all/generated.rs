@@ -3,37 +3,12 @@
 
 use crate::agree;
 use second::generate::damage::{damage_policy, damage_record};
-use second::generate::edits::edit;
 use second::generate::random::Random;
 use second::generate::{any_case, planner, render, requests};
-use second::Refusal;
-use std::collections::BTreeMap;
+use trials::changes::changes;
+use trials::tally::Tally;
 
 const TEXTS: usize = 24_000;
-
-/// How many texts were accepted, as 0, or refused by which number.
-#[derive(Default)]
-pub struct Tally(BTreeMap<u32, usize>);
-
-impl Tally {
-    pub fn count<T>(&mut self, answer: Result<T, Refusal>) {
-        let number = answer.map_or_else(|refusal| refusal.number, |_| 0);
-        *self.0.entry(number).or_default() += 1;
-    }
-
-    pub fn texts(&self) -> usize {
-        self.0.values().sum()
-    }
-
-    /// Texts that were nearly all refused alike would try little.
-    pub fn at_least(&self, what: &str, wanted: &[(u32, usize)]) {
-        println!("{} {what}, by refusal: {:?}", self.texts(), self.0);
-        for (number, least) in wanted {
-            let found = self.0.get(number).copied().unwrap_or(0);
-            assert!(found >= *least, "{found} {what} with {number}, of {least}");
-        }
-    }
-}
 
 #[test]
 fn generated_policies_agree() {
@@ -80,20 +55,6 @@ fn generated_records_agree() {
     }
     let wanted = [(0, TEXTS / 4), (7, 200), (8, TEXTS / 20), (9, TEXTS / 5)];
     tally.at_least("records", &wanted);
-}
-
-/// A text; edited once or twice, with parts of another; and damaged.
-pub fn changes(
-    text: &[u8],
-    other: &[u8],
-    damage: fn(&[u8], &mut Random) -> Vec<u8>,
-    random: &mut Random,
-) -> [Vec<u8>; 3] {
-    let mut edited = edit(text, other, random);
-    if random.chance(1, 3) {
-        edited = edit(&edited, other, random);
-    }
-    [text.to_vec(), edited, damage(text, random)]
 }
 
 /// Cases as they are made for whole operations: policies with their records.

@@ -73,16 +73,6 @@ pub fn decide(policy: &str, record: &str) -> (Outcome, u32) {
     (outcome, statement)
 }
 
-/// A room fed with records that must be accepted.
-pub fn fed(policy: &str, records: &[String]) -> Vec<u32> {
-    let mut room = vec![0; ROOM];
-    for record in records {
-        let answer = second::feed(policy.as_bytes(), record.as_bytes(), &mut room);
-        assert!(answer.is_ok(), "{answer:?} on {record}");
-    }
-    room
-}
-
 pub fn finish(policy: &str, room: &[u32]) -> Result<String, Refusal> {
     let mut output = vec![UNTOUCHED; 6200];
     let length = second::finish(policy.as_bytes(), room, &mut output)?;

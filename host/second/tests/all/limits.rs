@@ -1,7 +1,6 @@
-//! Each limit on both sides.
+//! Each limit of texts on both sides; those of results are tried by `trials`.
 
 use crate::common::*;
-use second::Outcome::Allowed;
 
 /// The spellings in which texts are brought to a length in characters.
 const SPELLINGS: [&str; 5] = ["x", r"\u0078", "é", "𝄞", r"\ud834\udd1e"];
@@ -199,103 +198,4 @@ fn levels() {
         (policy_number(&broken_behind), record_number(&broken_behind)),
         (4, 9)
     );
-}
-
-/// A policy whose written form has exactly this many bytes.
-fn of_length(effect: &str, length: usize) -> String {
-    let list = |last: usize| {
-        let long = format!("\"arn:::::{}\"", "x".repeat(200));
-        let mut list = vec![long; 28];
-        list.push(format!("\"arn:::::{}\"", "x".repeat(last)));
-        format!("[{}]", list.join(","))
-    };
-    let text = |last: usize| policy(&[statement(effect, "[\"*\"]", &list(last))]);
-    let shortest = text(0).len();
-    text(length - shortest)
-}
-
-#[test]
-fn result_bytes() {
-    assert_eq!(restate(of_length("Allow", 6_144)).unwrap().len(), 6_144);
-    assert_eq!(restate(of_length("Allow", 6_145)), Err(refused(11)));
-    // The Allow statement's text is added to the Deny statement's.
-    let allowed = statement("Allow", "[\"*\"]", "[\"arn:::::y\"]");
-    let with_allow = |length: usize| {
-        let denied = of_length("Deny", length - allowed.len() - 1);
-        denied.replacen("\"Statement\":[", &format!("\"Statement\":[{allowed},"), 1)
-    };
-    let records = [record("a:b", "arn:::::y")];
-    let spare = "*".len();
-    for (length, expected) in [(6_144, Ok(6_144)), (6_145, Err(refused(11)))] {
-        let text = with_allow(length - "a:b".len() + spare);
-        let room = fed(&text, &records);
-        assert_eq!(finish(&text, &room).map(|text| text.len()), expected);
-    }
-}
-
-#[test]
-fn output_bytes() {
-    let text = allow("[\"*\"]", "[\"*\"]");
-    let room = fed(&text, &[record("a:b", "arn:::::y")]);
-    let refined = allow("[\"a:b\"]", "[\"arn:::::y\"]");
-    for length in [refined.len(), refined.len() + 1, 9_000] {
-        let mut output = vec![UNTOUCHED; length];
-        let written = second::finish(text.as_bytes(), &room, &mut output);
-        assert_eq!(written, Ok(refined.len()));
-        assert_eq!(&output[..refined.len()], refined.as_bytes());
-        assert!(output[refined.len()..]
-            .iter()
-            .all(|&byte| byte == UNTOUCHED));
-    }
-    for length in [0, refined.len() - 1] {
-        let mut output = vec![UNTOUCHED; length];
-        let written = second::finish(text.as_bytes(), &room, &mut output);
-        assert_eq!(written, Err(refused(12)));
-        assert!(output.iter().all(|&byte| byte == UNTOUCHED));
-    }
-    let mut output = vec![UNTOUCHED; text.len()];
-    assert_eq!(
-        second::restate(text.as_bytes(), &mut output),
-        Ok(text.len())
-    );
-    assert_eq!(
-        second::restate(text.as_bytes(), &mut output[1..]),
-        Err(refused(12))
-    );
-}
-
-/// Two logged texts of 254 characters that share 253 are held as these and a
-/// star, which is 254 again.
-#[test]
-fn longest_beginning() {
-    let text = allow_if(r#"{"StringLike":{"k":["*"]}}"#);
-    for spelling in SPELLINGS {
-        let value = |last: &str| {
-            let value = spelling.repeat(253) + last;
-            record_with(&[context("k", "string", &value)])
-        };
-        let records = [value("1"), value("2")];
-        let room = fed(&text, &records);
-        let row = &room[512..768];
-        assert_eq!(row[..2], [3, 253]);
-        // Written, 253 characters of the long spellings pass 6,144 bytes no
-        // more than once, so the finished policy can be read again.
-        let finished = finish(&text, &room).unwrap();
-        for record in &records {
-            assert_eq!(decide(&finished, record), (Allowed, 1));
-        }
-        let prefix = record_with(&[context("k", "string", &spelling.repeat(253))]);
-        assert_eq!(fed(&text, &[prefix, value("1")]), room);
-    }
-}
-
-/// An entry of 253 characters and a star cannot be narrowed to a beginning.
-#[test]
-fn longest_entry() {
-    let entry = "x".repeat(253);
-    let text = allow_if(&format!(r#"{{"StringLike":{{"k":["{entry}*"]}}}}"#));
-    let value = |last: &str| record_with(&[context("k", "string", &format!("{entry}{last}"))]);
-    assert_eq!(fed(&text, &[value("1")])[512..514], [2, 254]);
-    assert_eq!(fed(&text, &[value("")])[512..514], [2, 253]);
-    assert_eq!(fed(&text, &[value("1"), value("2")])[512..514], [1, 0]);
 }

@@ -4,7 +4,6 @@
 mod common;
 
 mod corpus;
-mod imitations;
 mod json;
 mod layouts;
 mod limits;
@@ -13,5 +12,4 @@ mod program;
 mod properties;
 mod records;
 mod refusals;
-mod rooms;
 mod strings;

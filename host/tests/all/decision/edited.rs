@@ -3,8 +3,8 @@
 use super::generated::Tally;
 use super::{allowed, decides, denied, IMPLICIT};
 use crate::agree;
-use crate::edited::every_change;
 use second::Decision;
+use trials::changes::every_change;
 
 const POLICY: &str = r#"{"Version":"2012-10-17","Statement":[{"Sid":"S1","Effect":"Deny","Action":["s3:Put*","s3:?elete"],"Resource":"arn:aws:s3:::gate/*"},{"Effect":"Allow","Action":["s3:Get*","sqs:*"],"Resource":["arn:aws:s3:::gate/*/é?","arn:aws:s3:::n${*}*"],"Condition":{"StringEquals":{"aws:Tag/x":["é","*"]},"StringLike":{"k":"n*"},"NumericLessThanEquals":{"n":[7,"10"]}}},{"Effect":"Allow","Action":"*","Resource":"arn:aws:s3:::open/*"}]}"#;
 

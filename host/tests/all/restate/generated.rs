@@ -2,11 +2,12 @@
 
 use super::{ROOM, TOO_SHORT};
 use crate::agree::{self, shown};
-use crate::generated::{changes, Tally};
 use second::generate::damage::damage_policy;
 use second::generate::random::Random;
 use second::generate::{planner, render, sound_case};
 use second::model::{Expected, Model};
+use trials::changes::changes;
+use trials::tally::Tally;
 
 const TEXTS: usize = 24_000;
 

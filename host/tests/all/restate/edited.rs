@@ -2,12 +2,12 @@
 //! others.
 
 use super::generated::check;
-use crate::edited::{every_change, POLICIES};
-use crate::generated::Tally;
 use second::corpus::at_hand;
 use second::generate::edits::edit;
 use second::generate::random::Random;
 use std::fs;
+use trials::changes::{every_change, POLICIES};
+use trials::tally::Tally;
 
 #[test]
 fn edited_policies_agree() {

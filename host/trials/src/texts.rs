@@ -25,9 +25,14 @@ pub fn statements(all: &[String]) -> String {
     policy(&format!("[{}]", all.join(",")))
 }
 
-/// A statement with these lists.
+/// A statement that allows what these lists say.
 pub fn statement(action: &str, resource: &str) -> String {
-    format!(r#"{{"Effect":"Allow","Action":{action},"Resource":{resource}}}"#)
+    statement_to("Allow", action, resource)
+}
+
+/// A statement with this effect and these lists.
+pub fn statement_to(effect: &str, action: &str, resource: &str) -> String {
+    format!(r#"{{"Effect":"{effect}","Action":{action},"Resource":{resource}}}"#)
 }
 
 pub fn with_action(action: &str) -> String {
@@ -55,6 +60,11 @@ pub fn with_row(operator: &str, key: &str, values: &str) -> String {
 /// A record with these members besides its action.
 pub fn record(members: &str) -> String {
     format!(r#"{{"ActionNames":["a:b"]{members}}}"#)
+}
+
+/// A record that asks for an action on a resource, both without quotes.
+pub fn asking(action: &str, resource: &str) -> String {
+    format!(r#"{{"ActionNames":["{action}"],"ResourceArns":["{resource}"]}}"#)
 }
 
 /// A record with this list of context entries.

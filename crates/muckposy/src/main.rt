@@ -1,0 +1,125 @@
+// The program: policy.json of its folder, then records from standard input, one to a line, then the refined policy. It
+// reads, calls and prints; whatever is decided is decided in the library.
+mod printing;
+mod reading;
+
+use printing::say_refused;
+use reading::Reached;
+use refine::operations::Answer;
+
+// One byte more than a policy and a record may have is enough to refuse them.
+const POLICY: usize = 16385;
+
+const LINE: usize = 8193;
+
+// A piece of the input was fed; it was the last; or it could not be read.
+enum Step {
+    Fed(Reached),
+    Ended(Reached),
+    Failed,
+}
+
+// The result; or why there is none.
+fn finish(policy: &[u8], room: &[u32]) {
+    let mut out = [0u8; 6144];
+    let a = refine::operations::finish(policy, room, &mut out);
+    match a {
+        writing::operations::Answer::Written(n) => {
+            printing::say_result(&out, n);
+        }
+        writing::operations::Answer::Refused(f) => {
+            say_refused(f);
+        }
+    }
+}
+
+// One piece of the input.
+fn feed_some(policy: &[u8], line: &mut [u8], at: Reached, room: &mut [u32]) -> Step {
+    let mut chunk = io::large_buffer();
+    let got = libc::read(0, &mut chunk);
+    if got < 0 {
+        return Step::Failed;
+    }
+    let n = io::count(got, &chunk);
+    if n == 0 {
+        return Step::Ended(at);
+    }
+    Step::Fed(reading::feed_lines(policy, &chunk[..n], line, at, room))
+}
+
+// All of it. A proved loop has to end, and nothing says that the input does: so the pieces are counted down, from a
+// number that no run uses up.
+fn feed_all(policy: &[u8], line: &mut [u8], room: &mut [u32]) -> Step {
+    let mut at = Reached { have: 0, number: 1 };
+    let mut pieces = 18446744073709551615u64;
+    while pieces > 0 {
+        let s = feed_some(policy, line, at, room);
+        match s {
+            Step::Fed(to) => {
+                at = to;
+            }
+            Step::Ended(to) => {
+                return Step::Ended(to);
+            }
+            Step::Failed => {
+                return Step::Failed;
+            }
+        }
+        pieces = pieces - 1;
+    }
+    Step::Failed
+}
+
+// All records, and then the result; nothing more where the input cannot be read to its end.
+fn refine_log(policy: &[u8], room: &mut [u32]) {
+    let mut line = [0u8; LINE];
+    let s = feed_all(policy, &mut line, room);
+    match s {
+        Step::Ended(at) => {
+            reading::feed_last(policy, &line, at, room);
+            finish(policy, room);
+        }
+        Step::Fed(_) => {}
+        Step::Failed => {
+            io::write_all(2, b"standard input could not be read to its end\n");
+        }
+    }
+}
+
+// A policy that is refused is told at once: on an empty room Finish gives its refusal, or 10.
+fn run(policy: &[u8]) {
+    let mut room = [0u32; 16384];
+    let mut out = [0u8; 1];
+    let a = refine::operations::finish(policy, &room, &mut out);
+    match a {
+        writing::operations::Answer::Written(_) => {}
+        writing::operations::Answer::Refused(f) => {
+            if policy::refusals::number(f) < 6 {
+                say_refused(f);
+                return;
+            }
+        }
+    }
+    refine_log(policy, &mut room);
+}
+
+fn no_policy() {
+    io::write_all(1, b"no policy\n");
+}
+
+fn main() {
+    let fd = os::open_read(b"policy.json");
+    if fd < 0 {
+        no_policy();
+        return;
+    }
+    let mut policy = [0u8; POLICY];
+    let n = io::read_full(fd, &mut policy);
+    let mut more = [0u8; 1];
+    if libc::read(fd, &mut more) < 0 {
+        io::write_all(2, b"policy.json could not be read to its end\n");
+        no_policy();
+        return;
+    }
+    run(&policy[..n]);
+}
