@@ -1,0 +1,2 @@
+-- Proofs of the demands.
+pub mod Laws

@@ -1,0 +1,3 @@
+-- What is promised of whole logs.
+pub mod Logs
+pub mod Narrowing
