@@ -1,6 +1,9 @@
 pub mod Rows
 pub mod Rooms
 pub mod Logs
+pub mod Least
 pub mod Deciding
 pub mod Narrowing
 pub mod NarrowingPolicy
+pub mod Keeping
+pub mod KeepingPolicy

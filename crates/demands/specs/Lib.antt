@@ -1,3 +1,4 @@
 -- What is promised of whole logs.
 pub mod Logs
+pub mod Charges
 pub mod Narrowing

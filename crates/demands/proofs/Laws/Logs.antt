@@ -25,23 +25,15 @@ use Rattle.refine.specs.Operations.{roomNumbers, isRoom, holdsFor, Feeds, Joins
 use Rattle.refine.specs.Operations as O
 use Rattle.refine.proofs.Laws.Charged.{none-right, charges-right}
 use Rattle.refine.proofs.Laws.Held.{sound-read, short-read, rows-enough, room-size}
-use Rattle.refine.proofs.Laws.Lengths.{foundAt}
 use Rattle.refine.proofs.Laws.Operations.{finishes-unique}
 use Rattle.demands.specs.Logs.{Bytes, emptyRoom, Walks, walked, Comes, SameRecords, SameRoom, SameResult}
 use Rattle.demands.specs.Logs as L
+use Rattle.demands.specs.Charges.{foundAt, Charged}
 use Rattle.demands.proofs.Laws.Rooms.{Charging, RowsHold, rows-fit, rows-alike, rows-fed, rows-met, rows-empty}
 use Rattle.demands.proofs.Laws.Rooms.{rows-same, fed-length, met-length}
 use Rattle.demands.proofs.Laws.Rows.{And}
 
 -- ---- what a log charges
-
--- the value v is charged to the k-th entry by a record of the log
-pub record Charged (p : Policy) (log : List Bytes) (k : ℕ) (v : Value) : Type 0 where
-  pub asked : Bytes
-  pub among : List·Memᴰ asked log
-  pub request : Request
-  pub says : Says recordRules asked (known request)
-  pub charges-it : foundAt k (charges p request) ≡ found v
 
 apart : {A B : Type 0} {f : Refusal} {a : A} → _≡_ {A = Outcome A} (known a) (refused f) → B
 apart e = let y : _≡_ {A = ℕ} 0 1 = cc in absurd (omega arith)

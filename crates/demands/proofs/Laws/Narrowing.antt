@@ -52,10 +52,10 @@ unfoldable pub listFits : Place → List Value → List ℕ → Bool
 listFits p [] ns = true
 listFits p (x ∷ xs) ns = both (isRow (kindOf p x) (take rowNumbers ns)) (listFits p xs (drop rowNumbers ns))
 
-abbrev any : Place → Value → List Value → Bool
+abbrev pub any : Place → Value → List Value → Bool
 any p v xs = anyOf (λ x. meetsAt p x v) xs
 
-candidate : (p : Place) (x : Value) (ns : List ℕ) (c : Candidate) → isRow (kindOf p x) ns ≡ true
+pub candidate : (p : Place) (x : Value) (ns : List ℕ) (c : Candidate) → isRow (kindOf p x) ns ≡ true
     → contentOf ns ≡ holds c → kindOf p x .is c ≡ true
 candidate p x ns c f e = sym (ap (isContent (kindOf p x)) e) ∙ made (kindOf p x) ns f
 
@@ -91,7 +91,7 @@ kept-narrows p v (x ∷ xs) ns f e =
 
 module _ (p : Place) (kind : (ys : List ℕ) → kindOf p (text ys) ≡ wildKind p ys)
     (like : (ys a : List ℕ) → meetsAt p (text ys) (text a) ≡ matches ys a) (a : List ℕ) where
-  texts-any : (xs : List (List ℕ)) → anyOf (λ e. matches e a) xs ≡ any p (text a) (map text xs)
+  pub texts-any : (xs : List (List ℕ)) → anyOf (λ e. matches e a) xs ≡ any p (text a) (map text xs)
   unfolding anyOf
   texts-any [] = refl
   texts-any (x ∷ xs) =
@@ -106,7 +106,7 @@ module _ (p : Place) (kind : (ys : List ℕ) → kindOf p (text ys) ≡ wildKind
   text-candidate ys (under q) i = sym (like _ a)
   text-candidate ys (upTo n) i = false-true (sym (number-not p ys n) ∙ i)
 
-  kept-any : (xs : List (List ℕ)) (ns : List ℕ) → listFits p (map text xs) ns ≡ true
+  pub kept-any : (xs : List (List ℕ)) (ns : List ℕ) → listFits p (map text xs) ns ≡ true
       → anyOf (λ e. matches e a) (keptTexts xs ns) ≡ any p (text a) (kept (map text xs) ns)
   unfolding kept anyOf listFits
   kept-any [] ns f = refl

@@ -31,7 +31,7 @@ use Rattle.demands.proofs.Laws.Deciding.{heldBy, allHeld, matched, some
 
 -- ---- rows
 
-fits-list : (p : Place) (xs : List Value) (ss : List Slot) (ns : List ℕ) → fits (slotsAt Allow p xs ++ ss) ns ≡ true
+pub fits-list : (p : Place) (xs : List Value) (ss : List Slot) (ns : List ℕ) → fits (slotsAt Allow p xs ++ ss) ns ≡ true
     → (listFits p xs ns ≡ true) × (fits ss (behind xs ns) ≡ true)
 unfolding fits listFits
 fits-list p [] ss ns e = (refl, e)
@@ -67,13 +67,13 @@ rows-narrow (r ∷ rs) cs ss ns f e =
 
 -- ---- statements
 
-abbrev allowSlots : Statement → List Slot
+abbrev pub allowSlots : Statement → List Slot
 allowSlots s =
     slotsAt Allow inAction (map text (s .actions))
     ++ (slotsAt Allow inResource (map text (s .resources)) ++ rowSlots Allow (s .rows))
 
 -- the rows behind a list of texts
-behind-texts : (xs : List (List ℕ)) (ns : List ℕ) → behind (map text xs) ns ≡ behind xs ns
+pub behind-texts : (xs : List (List ℕ)) (ns : List ℕ) → behind (map text xs) ns ≡ behind xs ns
 behind-texts xs ns = ap (λ (k : ℕ). drop (rowNumbers * k) ns) (many xs)
   where
     many : (zs : List (List ℕ)) → length (map text zs) ≡ length zs
@@ -110,7 +110,7 @@ statement-narrows s q ss ns f e =
 
 -- ---- the policy
 
-skip : (ts ss : List Slot) (ns : List ℕ) → fits (ts ++ ss) ns ≡ true → fits ss (drop (rowNumbers * length ts) ns) ≡ true
+pub skip : (ts ss : List Slot) (ns : List ℕ) → fits (ts ++ ss) ns ≡ true → fits ss (drop (rowNumbers * length ts) ns) ≡ true
 unfolding fits
 skip [] ss ns e = e
 skip (t ∷ ts) ss ns e =
@@ -119,13 +119,13 @@ skip (t ∷ ts) ss ns e =
     let n : rowNumbers + rowNumbers * length ts ≡ rowNumbers * length (t ∷ ts) = omega arith in
     ap (fits ss) (sym (drop-drop (rowNumbers * length ts) rowNumbers ns ∙ ap (λ (k : ℕ). drop k ns) n)) ∙ r
 
-slots-allow : (s : Statement) → s .effect ≡ Allow → statementSlots s ≡ allowSlots s
+pub slots-allow : (s : Statement) → s .effect ≡ Allow → statementSlots s ≡ allowSlots s
 unfolding statementSlots
 slots-allow s e =
     ap (λ (a : Effect). slotsAt a inAction (map text (s .actions))
     ++ (slotsAt a inResource (map text (s .resources)) ++ rowSlots a (s .rows))) e
 
-effect-kept : (s : Statement) (ns : List ℕ) → keptStatement s ns .effect ≡ s .effect
+pub effect-kept : (s : Statement) (ns : List ℕ) → keptStatement s ns .effect ≡ s .effect
 unfolding keptStatement
 effect-kept s ns = refl
 
@@ -151,7 +151,7 @@ left-deny s ns rest q = by (s .effect) refl
         whether true = some-deny (keptStatement s ns) rest q (effect-kept s ns ∙ e)
         whether false = refl
 
-deny-same : (p : Policy) (ns : List ℕ) (q : Request) → some Deny (refinedPolicy p ns) q ≡ some Deny p q
+pub deny-same : (p : Policy) (ns : List ℕ) (q : Request) → some Deny (refinedPolicy p ns) q ≡ some Deny p q
 unfolding refinedPolicy some
 deny-same [] ns q = refl
 deny-same (s ∷ p) ns q =

@@ -8,7 +8,7 @@ use mathlib.Core.List.{List, [], _∷_, _++_}
 use Prim.Native.Nat.{ℕ, zero, suc, _+_, _-_, _*_, _≤_}
 use native.Mathlib.Omega.{arith}
 use lib.ListN.{length, getD, take, drop, replicate, length-append, length-drop, length-take, take-append-drop}
-use lib.Seq.{take-at, drop-at}
+use lib.Seq.{take-at, drop-at, drop-drop}
 use borrow.Author.Tests.{eq-eqb}
 use native.Mathlib.Nat.{zero-add, suc-add}
 use Rattle.text.specs.Base.{pick}
@@ -20,7 +20,7 @@ use Rattle.refine.specs.Candidates as C
 use Rattle.refine.specs.Rows.{rowNumbers, padded, row, isZero}
 use Rattle.refine.specs.Rooms.{Slot, rowFits, fits, rowFed, fed, rowMet, met}
 use Rattle.refine.specs.Walking.{RightAt, Right, all-right, one-right}
-use Rattle.refine.proofs.Laws.Lengths.{foundAt}
+use Rattle.demands.specs.Charges.{foundAt, rowAt, At, here, there}
 use Rattle.demands.proofs.Laws.Rows.{RowHolds, empty-holds, And, row-fed, row-met, row-same, row-alike}
 use Rattle.demands.proofs.Laws.Rows.{zero-first}
 
@@ -165,3 +165,15 @@ met-length (s ∷ ss) S R xs ys h g =
       met-length ss (λ k. S (suc k)) (λ k. R (suc k)) (drop rowNumbers xs) (drop rowNumbers ys) (h .1) (g .1),
       parts-length s (S 0) xs (h .0),
     )
+
+-- ---- the row of one slot
+
+pub rows-at : {ss : List Slot} (S : Charging) (xs : List ℕ) (k : ℕ) (s : Slot) → RowsHold ss S xs → At k ss s
+    → RowHolds s (S k) (rowAt k xs)
+unfolding RowsHold
+rows-at S xs k s h here = h .0
+rows-at S xs k s h (there {k = j} i) =
+    let e : rowNumbers + rowNumbers * j ≡ rowNumbers * suc j = omega arith in
+    subst (λ (l : List ℕ). RowHolds s (S (suc j)) (take rowNumbers l))
+    (drop-drop (rowNumbers * j) rowNumbers xs ∙ ap (λ (m : ℕ). drop m xs) e)
+    (rows-at (λ m. S (suc m)) (drop rowNumbers xs) j s (h .1) i)

@@ -40,7 +40,7 @@ use Rattle.refine.proofs.Laws.JoiningLeast.{Short, picked, longest-short}
 use Rattle.refine.proofs.Laws.Handling.{Handled, denied, alone, wild, bound, handles, Alone, Wild, Bound, back}
 use Rattle.refine.proofs.Laws.Handling.{Mark, no-mark, a-mark, mark-only}
 use Rattle.refine.proofs.Laws.HandlingRows.{kind-row, number-of, text-of, content-none, row-back}
-use Rattle.refine.proofs.Laws.Lengths.{charged-size, foundAt}
+use Rattle.refine.proofs.Laws.Lengths.{charged-size}
 
 -- ---- one row
 
