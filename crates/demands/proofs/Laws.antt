@@ -7,3 +7,4 @@ pub mod Narrowing
 pub mod NarrowingPolicy
 pub mod Keeping
 pub mod KeepingPolicy
+pub mod Outcomes

@@ -2,3 +2,4 @@
 pub mod Logs
 pub mod Charges
 pub mod Narrowing
+pub mod Outcomes
