@@ -8,3 +8,6 @@ pub mod NarrowingPolicy
 pub mod Keeping
 pub mod KeepingPolicy
 pub mod Outcomes
+pub mod ValidLists
+pub mod ValidPolicy
+pub mod Again

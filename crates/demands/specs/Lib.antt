@@ -3,3 +3,4 @@ pub mod Logs
 pub mod Charges
 pub mod Narrowing
 pub mod Outcomes
+pub mod Again
