@@ -22,7 +22,7 @@ use Rattle.refine.specs.Rooms.{Slot, rowFits, fits, rowFed, fed, rowMet, met}
 use Rattle.refine.specs.Walking.{RightAt, Right, all-right, one-right}
 use Rattle.demands.specs.Charges.{foundAt, rowAt, At, here, there}
 use Rattle.demands.proofs.Laws.Rows.{RowHolds, empty-holds, And, row-fed, row-met, row-same, row-alike}
-use Rattle.demands.proofs.Laws.Rows.{zero-first}
+use Rattle.refine.proofs.Laws.HandlingRows.{zero-first}
 
 -- the values charged to each slot, by its number
 abbrev pub Charging : Type 1

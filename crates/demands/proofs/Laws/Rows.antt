@@ -9,7 +9,6 @@ use mathlib.Core.Logic.{_⊎_, inl, inr}
 use mathlib.Core.List.{List, [], _∷_, _++_}
 use Prim.Native.Nat.{ℕ, zero, suc, _+_, _-_, _*_, _≤_, _<_}
 use native.Mathlib.Omega.{arith}
-use native.Mathlib.Decide.{decLt}
 use lib.Dec.{leb}
 use lib.ListN.{length, getD, take, drop, replicate, length-append, length-drop, take-append-drop}
 use lib.Seq.{take-at, drop-at, length-take-le}
@@ -32,15 +31,12 @@ use Rattle.refine.specs.Walking.{Chargeable, RightAt, Right, all-right, one-rig
 use Rattle.refine.proofs.Laws.Contents.{holds-alike, holds-content, holds-unique, joined-holds}
 use Rattle.refine.proofs.Laws.Encoding.{Sized, no-row, whole-row, text-row, begun-row, number-row, content-row}
 use Rattle.refine.proofs.Laws.Entries.{lawful, whole-meets}
-use Rattle.refine.proofs.Laws.Rows.{zeros-start, zeros-not}
-use Rattle.refine.proofs.Laws.FittingWild.{byTests, noWildcard, finalStar, kind-is}
 use Rattle.refine.proofs.Laws.Bounding.{counted, counted-size}
-use Rattle.refine.proofs.Laws.Joining.{shared-few, standing}
-use Rattle.refine.proofs.Laws.JoiningLeast.{Short, picked, longest-short}
-use Rattle.refine.proofs.Laws.Handling.{Handled, denied, alone, wild, bound, handles, Alone, Wild, Bound, back}
+use Rattle.refine.proofs.Laws.Joining.{standing}
+use Rattle.refine.proofs.Laws.Handling.{Handled, denied, alone, wild, bound, handles, few}
 use Rattle.refine.proofs.Laws.Handling.{Mark, no-mark, a-mark, mark-only}
-use Rattle.refine.proofs.Laws.HandlingRows.{kind-row, number-of, text-of, content-none, row-back}
-use Rattle.refine.proofs.Laws.Lengths.{charged-size}
+use Rattle.refine.proofs.Laws.HandlingRows.{kind-row, number-of, text-of, content-none, zero-first}
+use Rattle.refine.proofs.Laws.Lengths.{charged-size, joined-textual}
 
 -- ---- one row
 
@@ -54,10 +50,6 @@ pub record RowHolds (s : Slot) (S : Value → Type 0) (xs : List ℕ) : Type 0 w
   pub fits-it : rowFits s xs ≡ true
 
 -- a content whose row has a row's size
-few : (zs : List ℕ) → length (padded zs) ≡ rowNumbers → length zs ≤ rowNumbers
-unfolding padded
-few zs e = omega (arith, e, length-append zs (replicate (rowNumbers - length zs) 0))
-
 sized : (c : Content) → length (row c) ≡ rowNumbers → Sized c
 unfolding row
 sized empty e = no-row
@@ -170,51 +162,10 @@ row-fed s S (found y) xs r w =
 
 -- ---- joined
 
-pub zero-first : (xs : List ℕ) → isZero xs ≡ true → getD xs 0 0 ≡ 0
-zero-first [] e = refl
-zero-first (x ∷ xs) e = by (decLt 0 x)
-  where
-    by : Dec (0 < x) → x ≡ 0
-    by (no n) = omega (arith, n)
-    by (yes z) =
-        let t : false ≡ true = zeros-not (zeros-start (x ∷ xs)) (omega arith) (λ y. omega (arith, z, y)) ∙ e in
-        let y : _≡_ {A = ℕ} 0 1 = cc in
-        absurd (omega arith)
-
 denied-empty : (s : Slot) (xs : List ℕ) → s .effect ≡ Deny → rowFits s xs ≡ true → contentOf xs ≡ empty
 denied-empty s xs d f =
     content-none xs (zero-first xs (sym (ap (λ (e : Effect). pick (sameEffect e Allow) (isRow (slotKind s) xs)
     (isZero xs)) d) ∙ f))
-
-text-few : (c : Candidate) → Short c → length (textOf c) ≤ textCharacters
-text-few c whole-text = omega arith
-text-few c (one-text h) = h
-text-few c (begun-text h) = h
-
-join-short : (p : Place) (ys : List ℕ) (a b : Candidate) → Short a → Short (wildKind p ys .join a b)
-join-short p ys a b s =
-    subst (λ (k : Kind). Short (k .join a b)) (sym (kind-is p ys)) (by (noWildcard p ys) (finalStar p ys))
-  where
-    rest : List ℕ
-    rest = shared (textOf a) (textOf b)
-
-    short-rest : length rest ≤ textCharacters
-    short-rest = omega (arith, shared-few (textOf a) (textOf b), text-few a s)
-
-    longest-rest : (wide : List ℕ → Bool) → Short (longest wide rest)
-    longest-rest wide = longest-short rest short-rest wide (length rest)
-
-    by : (t u : Bool) → Short (byTests p ys t u .join a b)
-    by true u = picked (oneText a b) a (longest never rest) s (longest-rest never)
-    by false true =
-        picked (oneText a b) a (longest (legalBeginning p (before ys)) rest) s
-        (longest-rest (legalBeginning p (before ys)))
-    by false false = picked (oneText a b) a (longest never rest) s (longest-rest never)
-
-joined-textual : (p : Place) (ys : List ℕ) (c d : Content) → Textual c → Textual d → Textual (joined (wildKind p ys) c d)
-joined-textual p ys empty d s t = t
-joined-textual p ys (holds a) empty s t = s
-joined-textual p ys (holds a) (holds b) s t = join-short p ys a b s
 
 textual-size : (c : Content) → Textual c → length (row c) ≡ rowNumbers
 textual-size c t = standing c t refl .size

@@ -168,7 +168,7 @@ module _ (s : Slot) (xs : List ℕ) where
 -- ---- what a row that fits holds
 
 -- a row has room for so many
-few : (zs : List ℕ) → length (padded zs) ≡ rowNumbers → length zs ≤ rowNumbers
+pub few : (zs : List ℕ) → length (padded zs) ≡ rowNumbers → length zs ≤ rowNumbers
 unfolding padded
 few zs e =
     omega (

@@ -37,7 +37,7 @@ pub kind-row :
     (s : Slot) (xs : List ℕ) {k : Kind} → s .effect ≡ Allow → slotKind s ≡ k → rowFits s xs ≡ true → isRow k xs ≡ true
 kind-row s xs o e f = fits-allowed s xs o e ∙ f
 
-zero-first : (xs : List ℕ) → isZero xs ≡ true → getD xs 0 0 ≡ 0
+pub zero-first : (xs : List ℕ) → isZero xs ≡ true → getD xs 0 0 ≡ 0
 zero-first [] e = refl
 zero-first (x ∷ xs) e = by (decLt 0 x)
   where

@@ -58,7 +58,7 @@ join-short p ys a b s =
         (longest-rest (legalBeginning p (before ys)))
     by false false = picked (oneText a b) a (longest never rest) s (longest-rest never)
 
-joined-textual : (p : Place) (ys : List ℕ) (c d : Content) → Textual c → Textual d → Textual (joined (wildKind p ys) c d)
+pub joined-textual : (p : Place) (ys : List ℕ) (c d : Content) → Textual c → Textual d → Textual (joined (wildKind p ys) c d)
 joined-textual p ys empty d s t = t
 joined-textual p ys (holds a) empty s t = s
 joined-textual p ys (holds a) (holds b) s t = join-short p ys a b s
