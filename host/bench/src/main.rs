@@ -1,14 +1,16 @@
-//! Measures the proved scan beside the second implementation's and beside
-//! serde_json, on the same bytes in one run. docs/BENCH.md says how to read it.
+//! Measures the proved code beside the second implementation, on the same bytes
+//! in one run. docs/BENCH.md says how to read it.
 
 mod counts;
-mod kernels;
+mod groups;
+mod operations;
+mod program;
+mod scans;
 mod stack;
 mod tables;
 mod texts;
 mod times;
 
-use kernels::Kernel;
 use std::process::exit;
 use texts::Sample;
 
@@ -16,11 +18,17 @@ fn main() {
     let arguments: Vec<String> = std::env::args().skip(1).collect();
     let words: Vec<&str> = arguments.iter().map(String::as_str).collect();
     match words.as_slice() {
-        ["tables"] => tables::print(),
+        ["tables"] => tables::scans(),
+        ["operations"] => tables::operations(),
+        ["functions"] => tables::functions(),
+        ["program", records, rounds, programs @ ..] => program::print(records, rounds, programs),
         ["stack"] => stack::print(),
         ["texts"] => print_texts(),
-        ["repeat", kernel, sample, times] => repeat(kernel, sample, times),
-        _ => fail("tables | stack | texts | repeat KERNEL SAMPLE TIMES"),
+        ["repeat", operation, texts, kernel, times] => repeat(operation, texts, kernel, times),
+        _ => fail(
+            "tables | operations | functions | program RECORDS ROUNDS PROGRAM .. | stack | texts \
+             | repeat OPERATION TEXTS KERNEL TIMES",
+        ),
     }
 }
 
@@ -32,20 +40,24 @@ fn print_texts() {
             println!("{}", String::from_utf8_lossy(text));
         }
     }
-}
-
-/// One kernel on one sample, so often: what instructions are counted of.
-fn repeat(kernel: &str, sample: &str, times: &str) {
-    let samples = texts::samples();
-    let kernel = Kernel::ALL.into_iter().find(|known| known.name() == kernel);
-    let sample = samples.iter().find(|known| known.name == sample);
-    match (kernel, sample, times.parse()) {
-        (Some(kernel), Some(sample), Ok(times)) => kernel.repeat(&sample.texts, times),
-        _ => fail("no such kernel or sample, or not a number"),
+    for log in texts::logs() {
+        println!("records under {}", log.name);
+        for text in &log.records {
+            println!("{}", String::from_utf8_lossy(text));
+        }
     }
 }
 
-fn fail(message: &str) {
+/// One kernel, so often: what instructions are counted of.
+fn repeat(operation: &str, texts: &str, kernel: &str, times: &str) {
+    let repeat = groups::find(operation, texts, kernel);
+    match (repeat, times.parse()) {
+        (Some(mut repeat), Ok(times)) => repeat(times),
+        _ => fail("no such operation, texts or kernel, or not a number"),
+    }
+}
+
+pub fn fail(message: &str) -> ! {
     eprintln!("{message}");
     exit(2);
 }

@@ -1,21 +1,33 @@
-//! How much stack a kernel takes on texts sixteen levels deep.
+//! How much stack a scan takes on texts sixteen levels deep, and an operation on
+//! the large policy.
 
-use crate::kernels::Kernel;
+use crate::operations;
+use crate::scans::{self, Scanner};
 use std::arch::asm;
 
 /// The painted stack; no kernel comes near its end.
-const ROOM: usize = 1 << 18;
+const ROOM: usize = 1 << 21;
 
 pub fn print() {
     println!("| Kernel | bytes of stack at 16 levels | innermost value |");
     println!("|---|---:|---|");
-    for kernel in Kernel::ALL {
+    for (name, takes) in scans::ALL {
         let (bytes, inside) = INSIDES
             .iter()
-            .map(|inside| (used_by(kernel, &nest(inside)), inside))
+            .map(|inside| (used_by_scan((name, takes), &nest(inside)), inside))
             .max()
             .expect("there are texts");
-        println!("| {} | {bytes} | `{inside}` |", kernel.name());
+        println!("| {name} | {bytes} | `{inside}` |");
+    }
+    println!();
+    println!("| Operation | Policy | Kernel | bytes of stack |");
+    println!("|---|---|---|---:|");
+    for group in operations::groups() {
+        for mut kernel in group.kernels {
+            let bytes = used_by(&mut || (kernel.repeat)(1));
+            let (operation, texts) = (group.operation, group.texts);
+            println!("| {operation} | {texts} | {} | {bytes} |", kernel.name);
+        }
     }
 }
 
@@ -37,24 +49,28 @@ fn nest(inside: &str) -> Vec<u8> {
     format!("{open}{inside}{close}").into_bytes()
 }
 
-/// A byte that happens to be written as it was painted would be missed, so
-/// two paints are tried; what calling alone takes is taken off.
-fn used_by(kernel: Kernel, text: &[u8]) -> usize {
-    let job = Some((kernel, text));
-    let deepest = |job: &Job| touched(job, 0x00).max(touched(job, 0xFF));
-    deepest(&job) - deepest(&None)
+fn used_by_scan((_, takes): Scanner, text: &[u8]) -> usize {
+    used_by(&mut || {
+        std::hint::black_box(takes(text));
+    })
 }
 
-type Job<'a> = Option<(Kernel, &'a [u8])>;
+/// A byte that happens to be written as it was painted would be missed, so
+/// two paints are tried; what calling alone takes is taken off.
+fn used_by(work: &mut dyn FnMut()) -> usize {
+    let deepest = |job: &mut Job| touched(job, 0x00).max(touched(job, 0xFF));
+    let alone = deepest(&mut Job(&mut || ()));
+    deepest(&mut Job(work)) - alone
+}
 
-extern "C" fn work(job: &Job) {
-    if let Some((kernel, text)) = job {
-        std::hint::black_box(kernel.passes(text));
-    }
+struct Job<'a>(&'a mut dyn FnMut());
+
+extern "C" fn work(job: &mut Job) {
+    (job.0)();
 }
 
 /// The bytes from the top of a painted stack to the deepest one touched.
-fn touched(job: &Job, paint: u8) -> usize {
+fn touched(job: &mut Job, paint: u8) -> usize {
     let mut room = vec![paint; ROOM];
     let end = room.as_mut_ptr_range().end;
     // Down to the next multiple of 16, as a call wants its stack.
@@ -69,7 +85,7 @@ fn touched(job: &Job, paint: u8) -> usize {
             "call {work}",
             "mov rsp, r12",
             top = in(reg) top,
-            work = in(reg) work as extern "C" fn(&Job),
+            work = in(reg) work as extern "C" fn(&mut Job),
             in("rdi") job,
             out("r12") _,
             clobber_abi("C"),

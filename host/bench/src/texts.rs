@@ -14,10 +14,44 @@ impl Sample {
     }
 }
 
+/// A policy, and records that are decided and fed under it.
+#[derive(Clone)]
+pub struct Log {
+    pub name: &'static str,
+    pub policy: Vec<u8>,
+    pub records: Vec<Vec<u8>>,
+}
+
+/// Of each four records three are allowed, and one is a stray.
+pub fn logs() -> Vec<Log> {
+    let mut random = Random::new(7);
+    let statements = large_statements(&mut random);
+    let large = large_policy(&statements);
+    let mut of_large = |_| large_request(&statements, &mut random);
+    let of_large = (0..64).map(&mut of_large).collect();
+    let mut random = Random::new(8);
+    let of_small = (0..64)
+        .map(|number| small_request(number, &mut random))
+        .collect();
+    let log = |name, policy, records| Log {
+        name,
+        policy,
+        records,
+    };
+    vec![
+        log("policy-2k", small_policy(), of_small),
+        log("policy-16k", large, of_large),
+    ]
+}
+
+pub fn small_policy() -> Vec<u8> {
+    SMALL_POLICY.as_bytes().to_vec()
+}
+
 pub fn samples() -> Vec<Sample> {
     let mut random = Random::new(7);
-    let large = large_policy(&mut random);
-    let small = SMALL_POLICY.as_bytes().to_vec();
+    let large = large_policy(&large_statements(&mut random));
+    let small = small_policy();
     let records: Vec<Vec<u8>> = (0..64).map(|_| record(&mut random)).collect();
     for policy in [&large, &small] {
         second::decide(policy, &records[0]).expect("a policy within the limits, and a record");
@@ -36,22 +70,90 @@ fn sample(name: &'static str, texts: Vec<Vec<u8>>) -> Sample {
     Sample { name, texts }
 }
 
-/// Sixteen statements of four entries each, three of them as long as may be;
-/// one space behind each comma and colon, as many programs write JSON.
-fn large_policy(random: &mut Random) -> Vec<u8> {
-    let statements: Vec<String> = (0..16).map(|index| statement(index, random)).collect();
+/// A statement of the large policy, its texts as they stand between quotes.
+struct Statement {
+    action: &'static str,
+    /// Without the star behind them.
+    resources: [String; 2],
+    tag: String,
+}
+
+/// Sixteen statements of four entries each, three of them as long as may be.
+fn large_statements(random: &mut Random) -> Vec<Statement> {
+    let statement = |_| Statement {
+        action: random.word(&ACTIONS),
+        resources: [(); 2].map(|()| format!("arn:aws:s3:::{}/", path(239, random))),
+        tag: path(253, random),
+    };
+    (0..16).map(statement).collect()
+}
+
+/// One space behind each comma and colon, as many programs write JSON.
+fn large_policy(statements: &[Statement]) -> Vec<u8> {
+    let statements: Vec<String> = statements.iter().enumerate().map(large_statement).collect();
     let statements = statements.join(", ");
     format!(r#"{{"Version": "2012-10-17", "Statement": [{statements}]}}"#).into_bytes()
 }
 
-fn statement(index: usize, random: &mut Random) -> String {
+fn large_statement((index, statement): (usize, &Statement)) -> String {
     let effect = if index % 5 == 4 { "Deny" } else { "Allow" };
-    let action = random.word(&ACTIONS);
-    let [first, second] = [(); 2].map(|()| format!("arn:aws:s3:::{}/*", path(239, random)));
-    let tag = path(253, random);
+    let Statement {
+        action,
+        resources: [first, second],
+        tag,
+    } = statement;
     format!(
-        r#"{{"Sid": "WhatTheNightlyReportsMayReadAndWrite{index}", "Effect": "{effect}", "Action": ["{action}"], "Resource": ["{first}", "{second}"], "Condition": {{"StringLike": {{"aws:PrincipalTag/department": "{tag}*"}}}}}}"#
+        r#"{{"Sid": "WhatTheNightlyReportsMayReadAndWrite{index}", "Effect": "{effect}", "Action": ["{action}"], "Resource": ["{first}*", "{second}*"], "Condition": {{"StringLike": {{"aws:PrincipalTag/department": "{tag}*"}}}}}}"#
     )
+}
+
+/// A request that one of the first two statements allows: more of them, with the
+/// Deny statements whole, would be refused as a result. Every fourth is a stray.
+fn large_request(statements: &[Statement], random: &mut Random) -> Vec<u8> {
+    if random.chance(1, 4) {
+        return record(random);
+    }
+    let statement = &statements[random.below(2)];
+    let action = statement.action.replace('*', "Acl");
+    // No text may be longer by more than a character.
+    let resource = format!("{}{}", random.pick(&statement.resources), random.below(10));
+    let tag = format!("{}{}", statement.tag, random.word(&["", "a", "b"]));
+    let tag = ("aws:PrincipalTag/department", "string", tag);
+    request(&action, &resource, &[tag])
+}
+
+/// A request that the small policy allows; every fourth is a stray.
+pub fn small_request(number: usize, random: &mut Random) -> Vec<u8> {
+    let (length, keys) = (random.between(8, 40), random.below(100));
+    let name = path(length, random);
+    match number % 8 {
+        3 | 7 => record(random),
+        0 => {
+            let action = random.word(&["s3:ListAllMyBuckets", "s3:GetBucketLocation"]);
+            request(action, &format!("arn:aws:s3:::example-{name}"), &[])
+        }
+        1 => {
+            let prefix = ("s3:prefix", "string", "daily/".to_owned());
+            let keys = ("s3:max-keys", "numeric", keys.to_string());
+            request(
+                "s3:ListBucket",
+                "arn:aws:s3:::example-reports",
+                &[prefix, keys],
+            )
+        }
+        2 => {
+            let key = format!("arn:aws:kms:eu-central-1:111122223333:key/{name}");
+            request("kms:Decrypt", &key, &[])
+        }
+        _ => {
+            let action = random.word(&["s3:GetObject", "s3:PutObject", "s3:GetObjectTagging"]);
+            let folder = random.word(&["daily", "weekly"]);
+            let resource = format!("arn:aws:s3:::example-reports/{folder}/{name}");
+            let department = random.word(&["finance", "audit-eu", "audit-us"]).to_owned();
+            let department = ("aws:PrincipalTag/department", "string", department);
+            request(action, &resource, &[department])
+        }
+    }
 }
 
 /// A path of so many characters: mostly letters, one in 150 an `é` as it
@@ -67,7 +169,8 @@ fn path(characters: usize, random: &mut Random) -> String {
         .collect()
 }
 
-/// A request of about 500 bytes, as a log has it in one line.
+/// A request of about 500 bytes, as a log has it in one line. Neither policy
+/// allows it.
 fn record(random: &mut Random) -> Vec<u8> {
     let action = random.word(&ACTIONS).trim_end_matches('*');
     let length = random.between(95, 155);
@@ -77,6 +180,13 @@ fn record(random: &mut Random) -> Vec<u8> {
         ("aws:SourceIp", "string", address(random)),
         ("s3:max-keys", "numeric", random.below(1000).to_string()),
     ];
+    request(action, &resource, &context)
+}
+
+/// The parts of a context entry: its key, its type and its value.
+type Context = (&'static str, &'static str, String);
+
+fn request(action: &str, resource: &str, context: &[Context]) -> Vec<u8> {
     let context: Vec<String> = context
         .iter()
         .map(|(key, kind, value)| {

@@ -47,7 +47,7 @@ mod written_form;
 
 pub use decision::{Decision, Outcome};
 pub use json::{scan, Scan};
-pub use operations::{decide, feed, finish, fresh, join, restate};
+pub use operations::{decide, feed, finish, fresh, join, restate, Desk};
 pub use program::{read_policy_file, run_program};
 pub use refusal::Refusal;
 pub use strings::{decode_string, write_string, LoneSurrogate};

@@ -17,7 +17,9 @@ thread_local! {
     static DESK: RefCell<Desk> = RefCell::default();
 }
 
-/// Everything that reading texts needs room for.
+/// Everything that reading texts needs room for. It keeps the policy that was
+/// read last, so that whoever calls its operations pays for reading once; those
+/// that take rooms trust them to fit that policy.
 #[derive(Debug, Default)]
 pub struct Desk {
     tape: Tape,
@@ -30,8 +32,7 @@ pub struct Desk {
 pub fn decide(policy: &[u8], record: &[u8]) -> Result<Decision, Refusal> {
     at_desk(|desk| {
         desk.read_policy(policy)?;
-        desk.read_record(record)?;
-        Ok(decision::decide(&desk.policy, &desk.record))
+        desk.decide(record)
     })
 }
 
@@ -53,7 +54,7 @@ pub fn join(policy: &[u8], room: &mut [u32], other: &[u32]) -> Result<(), Refusa
         desk.read_policy(policy)?;
         desk.check_room(room)?;
         desk.check_room(other)?;
-        rooms::join(&desk.policy, room, other);
+        desk.join(room, other);
         Ok(())
     })
 }
@@ -72,9 +73,7 @@ pub fn finish(policy: &[u8], room: &[u32], output: &mut [u8]) -> Result<usize, R
 pub fn restate(policy: &[u8], output: &mut [u8]) -> Result<usize, Refusal> {
     at_desk(|desk| {
         desk.read_policy(policy)?;
-        desk.written.clear();
-        written_form::restate(&desk.policy, &mut desk.written);
-        hand_over(check_result(&desk.written)?, output)
+        hand_over(desk.restate()?, output)
     })
 }
 
@@ -138,14 +137,24 @@ impl Desk {
         read.map_err(|_| Refusal::RECORD_LAYOUT)
     }
 
+    /// Decides under the policy read last.
+    pub fn decide(&mut self, record: &[u8]) -> Result<Decision, Refusal> {
+        self.read_record(record)?;
+        Ok(decision::decide(&self.policy, &self.record))
+    }
+
     /// Feeds under the policy read last, into a room that fits it.
     pub fn feed(&mut self, record: &[u8], room: &mut [u32]) -> Result<Decision, Refusal> {
-        self.read_record(record)?;
-        let decision = decision::decide(&self.policy, &self.record);
+        let decision = self.decide(record)?;
         if decision.outcome == Outcome::Allowed || fault::is_on(Fault::DeniedCharged) {
             rooms::charge(&self.policy, &self.record, room);
         }
         Ok(decision)
+    }
+
+    /// Joins two rooms that fit the policy read last.
+    pub fn join(&self, room: &mut [u32], other: &[u32]) {
+        rooms::join(&self.policy, room, other);
     }
 
     /// The refined policy, for a room that fits the policy read last.
@@ -154,6 +163,13 @@ impl Desk {
         if !written_form::finish(&self.policy, room, &mut self.written) {
             return Err(Refusal::NO_ALLOW_LEFT);
         }
+        check_result(&self.written)
+    }
+
+    /// The policy read last, unrefined.
+    pub fn restate(&mut self) -> Result<&[u8], Refusal> {
+        self.written.clear();
+        written_form::restate(&self.policy, &mut self.written);
         check_result(&self.written)
     }
 

@@ -7,6 +7,14 @@ use trials::texts;
 mod agree;
 mod proved;
 
+// What the examples of scale share.
+#[path = "../../examples/scale/cut.rs"]
+mod cut;
+#[path = "../../examples/scale/save.rs"]
+mod save;
+#[path = "../../examples/scale/walk.rs"]
+mod walk;
+
 mod contents;
 mod corpus;
 mod damage;
@@ -22,4 +30,5 @@ mod refusals;
 mod restate;
 mod room;
 mod rows;
+mod scale;
 mod types;

@@ -2,7 +2,7 @@
 //! on standard input. What it prints is compared with tables by hand and with
 //! the second implementation's program.
 
-use std::fs;
+use std::fs::{self, File};
 use std::io::Write;
 use std::path::{Path, PathBuf};
 use std::process::{Command, Stdio};
@@ -98,7 +98,9 @@ fn prints(policy: Option<&[u8]>, log: &[u8], expected: &str) {
 #[test]
 fn the_whole_example() {
     let at = |mark: &str| {
-        format!(r#"{{"ActionNames":["s3:GetObject"],"ResourceArns":["arn:aws:s3:::gate/north/é{mark}"]}}"#)
+        format!(
+            r#"{{"ActionNames":["s3:GetObject"],"ResourceArns":["arn:aws:s3:::gate/north/é{mark}"]}}"#
+        )
     };
     let log = format!("{}\n{{\n{}\n", at("1"), at("2"));
     let result = r#"{"Version":"2012-10-17","Statement":[{"Effect":"Allow","Action":["s3:GetObject"],"Resource":["arn:aws:s3:::gate/north/\u00e9*"]}]}"#;
@@ -121,6 +123,25 @@ fn a_policy_that_cannot_be_read() {
     fs::remove_dir_all(&folder).expect("the folder is removed");
     assert_eq!(run.output, b"no policy\n");
     assert_eq!(run.errors, b"policy.json could not be read to its end\n");
+}
+
+/// A folder as standard input can be opened and not be read. That is not taken
+/// for the end of the log: no result is printed.
+#[test]
+fn a_log_that_cannot_be_read() {
+    let folder = folder();
+    fs::write(folder.join("policy.json"), POLICY).expect("the policy is written");
+    let done = Command::new(program())
+        .current_dir(&folder)
+        .stdin(File::open(&folder).expect("the folder is opened"))
+        .output()
+        .expect("the program ends");
+    fs::remove_dir_all(&folder).expect("the folder is removed");
+    assert_eq!(String::from_utf8_lossy(&done.stdout), "");
+    assert_eq!(
+        String::from_utf8_lossy(&done.stderr),
+        "standard input could not be read to its end\n"
+    );
 }
 
 /// Only the refusal is printed, whatever the log has.

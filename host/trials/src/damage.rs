@@ -103,21 +103,31 @@ pub fn check(subject: &Subject, seed: u64, ways: usize, tally: &mut Tally) -> Ch
         let _ = subject.implementation.feed(&case.policy, record, &mut room);
     }
     for _ in 0..ways {
-        let damaged = Damaged {
-            subject,
-            policy: &case.policy,
-            good: &room,
-            room: changed(&room, subject.encoding, &mut random),
-        };
-        damaged.judged(tally).map_err(|trouble| {
-            let places = differences(&room, &damaged.room);
-            format!(
-                "seed {seed}: {trouble}; changed {places}\npolicy {}",
-                shown(&case.policy)
-            )
-        })?;
+        let changed = changed(&room, subject.encoding, &mut random);
+        let checked = check_room(subject, &case.policy, &room, changed, tally);
+        checked.map_err(|trouble| format!("seed {seed}: {trouble}"))?;
     }
     Ok(())
+}
+
+/// A room of a policy that is read, and what was made of it.
+pub fn check_room(
+    subject: &Subject,
+    policy: &[u8],
+    good: &[u32],
+    room: Vec<u32>,
+    tally: &mut Tally,
+) -> Check {
+    let damaged = Damaged {
+        subject,
+        policy,
+        good,
+        room,
+    };
+    damaged.judged(tally).map_err(|trouble| {
+        let places = differences(good, &damaged.room);
+        format!("{trouble}; changed {places}\npolicy {}", shown(policy))
+    })
 }
 
 /// The first numbers in which two rooms differ.

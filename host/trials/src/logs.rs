@@ -34,16 +34,19 @@ pub fn log(random: &mut Random) -> Case {
 pub fn check(subject: &Subject, seed: u64, tally: &mut Tally) -> Check {
     let mut random = Random::new(seed);
     let case = log(&mut random);
+    let checked = check_log(subject, &case, &mut random, tally);
+    checked.map_err(|trouble| format!("seed {seed}: {trouble}"))
+}
+
+/// Walks a log and its parts, whose cuts and order are random.
+pub fn check_log(subject: &Subject, log: &Case, random: &mut Random, tally: &mut Tally) -> Check {
     let walk = Walk {
         subject,
-        policy: &case.policy,
-        records: &case.records,
+        policy: &log.policy,
+        records: &log.records,
     };
-    let checked = walk.all(&mut random, tally);
-    checked.map_err(|trouble| {
-        let policy = shown(&case.policy);
-        format!("seed {seed}: {trouble}\npolicy {policy}")
-    })
+    let checked = walk.all(random, tally);
+    checked.map_err(|trouble| format!("{trouble}\npolicy {}", shown(&log.policy)))
 }
 
 /// Walks the logs of many seeds, up to the first trouble.
