@@ -11,3 +11,4 @@ pub mod Outcomes
 pub mod ValidLists
 pub mod ValidPolicy
 pub mod Again
+pub mod Trials

@@ -4,3 +4,4 @@ pub mod Charges
 pub mod Narrowing
 pub mod Outcomes
 pub mod Again
+pub mod Trials
