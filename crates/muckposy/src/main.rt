@@ -5,7 +5,6 @@ mod reading;
 
 use printing::say_refused;
 use reading::Reached;
-use refine::operations::Answer;
 
 // One byte more than a policy and a record may have is enough to refuse them.
 const POLICY: usize = 16385;

@@ -1,5 +1,4 @@
 // Lines of any length from pieces of the input, in constant room.
-ghost use Rattle.io.specs.Counts.{Counts};
 use crate::printing;
 use text::lines::Line;
 
