@@ -6,11 +6,11 @@ use mathlib.Core.Path.{_≡_}
 use mathlib.Core.Bool.{Bool, true, false}
 use mathlib.Core.List.{List}
 use Prim.Native.Nat.{ℕ, zero, suc, _<_}
-use Rattle.text.specs.Base.{pick}
-use Rattle.policy.specs.Policy.{Value, Context, Statement, Request}
-use Rattle.policy.specs.Held.{heldContext, anyOf}
+use Rattle.chars.specs.Base.{pick}
+use Rattle.syntax.specs.Policy.{Value, Context, Statement, Request}
+use Rattle.held.specs.Held.{heldContext, anyOf}
 use Rattle.decision.specs.Matching.{matches}
-use Rattle.policy.specs.Lying.{Lies}
+use Rattle.held.specs.Lying.{Lies}
 use Rattle.decision.specs.Decision.{Why, missing, other-type, no-entry, Result, holds, fails}
 use Rattle.decision.specs.Decision.{Found, nothing, found, Part, none, action, resource, row, rowsFrom}
 use Rattle.decision.specs.declared.deciding.Failing.{Failing}

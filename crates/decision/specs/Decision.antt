@@ -9,11 +9,11 @@ use mathlib.Core.Bool.{Bool, true, false}
 use mathlib.Core.List.{List, [], _∷_}
 use Prim.Native.Nat.{ℕ, zero, suc}
 use lib.Dec.{leb}
-use Rattle.text.specs.Base.{pick}
-use Rattle.policy.specs.Policy.{Effect, Allow, Deny, Operator, StringEquals, StringLike, NumericLessThanEquals}
-use Rattle.policy.specs.Policy.{Value, text, number, Row, Statement, Policy, Context, Request}
-use Rattle.policy.specs.Forms.{same, sameKey}
-use Rattle.policy.specs.Held.{anyOf}
+use Rattle.chars.specs.Base.{pick}
+use Rattle.syntax.specs.Policy.{Effect, Allow, Deny, Operator, StringEquals, StringLike, NumericLessThanEquals}
+use Rattle.syntax.specs.Policy.{Value, text, number, Row, Statement, Policy, Context, Request}
+use Rattle.syntax.specs.Forms.{same, sameKey}
+use Rattle.held.specs.Held.{anyOf}
 use Rattle.decision.specs.Matching.{matches}
 use Rattle.decision.specs.declared.deciding.Decision.{Decision}
 use Rattle.decision.specs.declared.deciding.Decision.the-variants.{Denied, Allowed, Implicit}

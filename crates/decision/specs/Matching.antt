@@ -11,12 +11,12 @@ use mathlib.Core.List.{List, [], _∷_}
 use Prim.Native.Nat.{ℕ, _+_, _≤_}
 use lib.Dec.{eqb, ltb}
 use lib.ListN.{length, getD}
-use Rattle.text.specs.Base.{pick}
+use Rattle.chars.specs.Base.{pick}
 use Rattle.decision.specs.declared.matching.Place.{Place}
 use Rattle.decision.specs.declared.matching.Move.{Move}
 use Rattle.decision.specs.declared.matching.Move.the-variants.{Go, Stop}
-use Rattle.policy.specs.Policy.{star, any}
-use Rattle.policy.specs.Forms.{both, either}
+use Rattle.syntax.specs.Policy.{star, any}
+use Rattle.syntax.specs.Forms.{both, either}
 
 pub data Matches : List ℕ → List ℕ → Type 0 where
   -- an entry of no symbols: the empty text

@@ -4,10 +4,10 @@
 -- Differs from 01: nowhere.  Pinned by: `decides-some` and `decides-unique` of Laws/Operations.
 use mathlib.Core.List.{List}
 use Prim.Native.Nat.{ℕ}
-use Rattle.policy.specs.Policy.{Policy, Request}
+use Rattle.syntax.specs.Policy.{Policy, Request}
 use Rattle.decision.specs.Decision.{decide}
-use Rattle.policy.specs.Held.{held}
-use Rattle.policy.specs.Lying.{Lies}
+use Rattle.held.specs.Held.{held}
+use Rattle.held.specs.Lying.{Lies}
 use Rattle.policy.specs.Reading.{Outcome, refused, known, policyRules, recordRules, Says}
 use Rattle.policy.specs.declared.refusals.Refusal.{Refusal}
 use Rattle.decision.specs.declared.deciding.Decision.{Decision}

@@ -4,21 +4,21 @@ ghost use mathlib.Core.List.{List};
 ghost use Prim.Native.Nat.{ℕ, _+_};
 ghost use lib.Dec.{leb};
 ghost use lib.ListN.{length};
-ghost use Rattle.policy.specs.Policy.{Operator, Value, Row, Statement, Policy, Context, Request};
-ghost use Rattle.policy.specs.Forms.{same, sameKey};
-ghost use Rattle.policy.specs.Held.{heldText, heldNumber, heldValue, heldList, heldContext};
-ghost use Rattle.policy.specs.Held.{heldRow, heldStatement, held, heldRequest, operatorNumber, typeNumber, anyOf};
-ghost use Rattle.policy.specs.Lying.{Lies, Lying};
-ghost use Rattle.policy.specs.Places.{Operating};
+ghost use Rattle.syntax.specs.Policy.{Operator, Value, Row, Statement, Policy, Context, Request};
+ghost use Rattle.syntax.specs.Forms.{same, sameKey};
+ghost use Rattle.held.specs.Held.{heldText, heldNumber, heldValue, heldList, heldContext};
+ghost use Rattle.held.specs.Held.{heldRow, heldStatement, held, heldRequest, operatorNumber, typeNumber, anyOf};
+ghost use Rattle.held.specs.Lying.{Lies, Lying};
+ghost use Rattle.held.specs.Places.{Operating};
 ghost use Rattle.decision.specs.Matching.{matches};
 ghost use Rattle.decision.specs.Decision.{typed, meets, valueAt, rowResult, rowsFrom, partOf, isNone, decide};
 ghost use Rattle.decision.specs.Deciding.{Finds, resultNumber};
 ghost use Rattle.decision.specs.Deciding.{partBehind, failingOf, isNothing, orElse};
 use crate::matching;
-use policy::forms;
-use policy::limits;
-use policy::places;
-use policy::runs;
+use held::limits;
+use held::places;
+use held::runs;
+use syntax::forms;
 
 // Denied or allowed by a statement, counted from 1; or denied by none and allowed by none.
 pub enum Decision {

@@ -3,7 +3,7 @@
 ghost use mathlib.Core.Path.{_≡_};
 ghost use Prim.Native.Nat.{_+_, _<_, _^_};
 ghost use Rattle.decision.specs.Matching.{stands, matches, retry, next, Inside};
-use policy::forms;
+use syntax::forms;
 
 // A symbol of the entry and a character of the text to be looked at, both by their places, the ends among them; the
 // place behind the last star passed, 0 where none was; and the place of the text from which what follows it is tried.

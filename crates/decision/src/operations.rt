@@ -1,7 +1,7 @@
 // The operations over bytes.
-ghost use Rattle.policy.specs.Policy.{Policy};
-ghost use Rattle.policy.specs.Held.{held};
-ghost use Rattle.policy.specs.Lying.{Lies, Lying};
+ghost use Rattle.syntax.specs.Policy.{Policy};
+ghost use Rattle.held.specs.Held.{held};
+ghost use Rattle.held.specs.Lying.{Lies, Lying};
 ghost use Rattle.decision.specs.Operations.{Decides, RecordDecides, toldAnswer};
 use crate::deciding;
 use crate::deciding::Decision;

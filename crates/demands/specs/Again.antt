@@ -2,10 +2,10 @@
 use Prim.Native.Nat.{ℕ}
 use mathlib.Core.List.{List}
 use lib.ListN.{take}
-use Rattle.policy.specs.Policy.{Policy}
+use Rattle.syntax.specs.Policy.{Policy}
 use Rattle.policy.specs.Reading.{known, policyRules, Says}
 use Rattle.refine.specs.Operations.{Finishes}
-use Rattle.refine.specs.Finishing.{refinedPolicy}
+use Rattle.refined.specs.Finishing.{refinedPolicy}
 use Rattle.demands.specs.Logs.{Bytes}
 
 -- demand 2: of Restate it is `RestatesAgain` in crates/writing/specs/Restating.antt

@@ -9,12 +9,12 @@ use mathlib.Core.Bool.{true}
 use mathlib.Core.List.{List, [], _∷_, List·Memᴰ}
 use Prim.Native.Nat.{ℕ, zero, suc, _*_}
 use lib.ListN.{take, drop}
-use Rattle.policy.specs.Policy.{Value, Policy, Request}
+use Rattle.syntax.specs.Policy.{Value, Policy, Request}
 use Rattle.policy.specs.Reading.{known, policyRules, recordRules, Says}
 use Rattle.decision.specs.Decision.{Found, nothing, found}
-use Rattle.refine.specs.Candidates.{Candidate, holds, Covers, Under, Holds}
-use Rattle.refine.specs.Rows.{rowNumbers, contentOf}
-use Rattle.refine.specs.Rooms.{Slot, slotKind, slots, charges}
+use Rattle.candidates.specs.Candidates.{Candidate, holds, Covers, Under, Holds}
+use Rattle.candidates.specs.Rows.{rowNumbers, contentOf}
+use Rattle.rooms.specs.Rooms.{Slot, slotKind, slots, charges}
 use Rattle.demands.specs.Logs.{Bytes, Comes}
 
 unfoldable pub foundAt : ℕ → List Found → Found

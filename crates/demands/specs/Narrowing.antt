@@ -6,13 +6,13 @@ use mathlib.Core.Path.{_≡_}
 use mathlib.Core.Bool.{Bool, true, false}
 use mathlib.Core.List.{List, List·Memᴰ}
 use Prim.Native.Nat.{ℕ}
-use Rattle.policy.specs.Policy.{Policy, Request}
+use Rattle.syntax.specs.Policy.{Policy, Request}
 use Rattle.policy.specs.Reading.{known, policyRules, recordRules, Says}
 use Rattle.decision.specs.Decision.{decide}
 use Rattle.decision.specs.declared.deciding.Decision.{Decision}
 use Rattle.decision.specs.declared.deciding.Decision.the-variants.{Denied, Allowed, Implicit}
 use Rattle.refine.specs.Operations.{holdsFor}
-use Rattle.refine.specs.Finishing.{refinedPolicy}
+use Rattle.refined.specs.Finishing.{refinedPolicy}
 use Rattle.demands.specs.Logs.{Bytes, Comes}
 
 abbrev pub isAllowed : Decision → Bool

@@ -7,7 +7,7 @@
 use mathlib.Core.Path.{_≡_}
 use mathlib.Core.List.{List, []}
 use Prim.Native.Nat.{ℕ}
-use Rattle.policy.specs.Policy.{Policy, Request}
+use Rattle.syntax.specs.Policy.{Policy, Request}
 use Rattle.policy.specs.Reading.{Outcome, refused, known, policyRules, recordRules, Says}
 use Rattle.policy.specs.declared.refusals.Refusal.{Refusal}
 use Rattle.decision.specs.Decision.{decide}

@@ -7,14 +7,14 @@ use mathlib.Core.Bool.{Bool, true, false}
 use mathlib.Core.List.{List, [], _∷_, _++_}
 use Prim.Native.Nat.{ℕ}
 use lib.Dec.{eqb}
-use Rattle.policy.specs.Policy.{star, any, Allow, Deny, NumericLessThanEquals, Value, text, number, Statement, Policy}
-use Rattle.policy.specs.Policy.{Request}
-use Rattle.policy.specs.Forms.{both, same}
+use Rattle.syntax.specs.Policy.{star, any, Allow, Deny, NumericLessThanEquals, Value, text, number, Statement, Policy}
+use Rattle.syntax.specs.Policy.{Request}
+use Rattle.syntax.specs.Forms.{both, same}
 use Rattle.decision.specs.Decision.{Found, nothing, found}
-use Rattle.refine.specs.Candidates.{Content, empty, holds, held}
-use Rattle.refine.specs.Entries.{Place, inAction, inResource, inRow, meetsAt, refined, kindOf}
-use Rattle.refine.specs.Rooms.{charges}
-use Rattle.refine.specs.Finishing.{refinedPolicy, hasAllow}
+use Rattle.candidates.specs.Candidates.{Content, empty, holds, held}
+use Rattle.candidates.specs.Entries.{Place, inAction, inResource, inRow, meetsAt, refined, kindOf}
+use Rattle.rooms.specs.Rooms.{charges}
+use Rattle.refined.specs.Finishing.{refinedPolicy, hasAllow}
 use Rattle.demands.specs.Logs.{emptyRoom}
 
 pub data Trial : Type 0 where

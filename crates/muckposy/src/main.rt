@@ -3,6 +3,8 @@
 mod printing;
 mod reading;
 
+ghost use Rattle.refine.specs.Sound.{HeldSound, Holding, Kept};
+use policy::reading::Read;
 use printing::say_refused;
 use reading::Reached;
 
@@ -19,9 +21,11 @@ enum Step {
 }
 
 // The result; or why there is none.
-fn finish(policy: &[u8], room: &[u32]) {
+fn finish(run: &[u32], room: &[u32])
+    requires { ⌜ Holding (now run) (now room) ⌝ }
+{
     let mut out = [0u8; 6144];
-    let a = refine::operations::finish(policy, room, &mut out);
+    let a = refine::operations::finish_held(run, room, &mut out);
     match a {
         writing::operations::Answer::Written(n) => {
             printing::say_result(&out, n);
@@ -33,7 +37,16 @@ fn finish(policy: &[u8], room: &[u32]) {
 }
 
 // One piece of the input.
-fn feed_some(policy: &[u8], line: &mut [u8], at: Reached, room: &mut [u32]) -> Step {
+fn feed_some(
+    run: &[u32],
+    line: &mut [u8],
+    at: Reached,
+    request: &mut [u32],
+    room: &mut [u32],
+) -> Step
+    requires { ⌜ Kept (now run) (now request) (now room) ⌝ }
+    ensures { λ r. ⌜ Kept (now (run .entry)) (now (request .exit)) (now (room .exit)) ⌝ }
+{
     let mut chunk = io::large_buffer();
     let got = libc::read(0, &mut chunk);
     if got < 0 {
@@ -43,16 +56,19 @@ fn feed_some(policy: &[u8], line: &mut [u8], at: Reached, room: &mut [u32]) -> S
     if n == 0 {
         return Step::Ended(at);
     }
-    Step::Fed(reading::feed_lines(policy, &chunk[..n], line, at, room))
+    Step::Fed(reading::feed_lines(run, &chunk[..n], line, at, request, room))
 }
 
 // All of it. A proved loop has to end, and nothing says that the input does: so the pieces are counted down, from a
 // number that no run uses up.
-fn feed_all(policy: &[u8], line: &mut [u8], room: &mut [u32]) -> Step {
+fn feed_all(run: &[u32], line: &mut [u8], request: &mut [u32], room: &mut [u32]) -> Step
+    requires { ⌜ Kept (now run) (now request) (now room) ⌝ }
+    ensures { λ r. ⌜ Kept (now (run .entry)) (now (request .exit)) (now (room .exit)) ⌝ }
+{
     let mut at = Reached { have: 0, number: 1 };
     let mut pieces = 18446744073709551615u64;
     while pieces > 0 {
-        let s = feed_some(policy, line, at, room);
+        let s = feed_some(run, line, at, request, room);
         match s {
             Step::Fed(to) => {
                 at = to;
@@ -70,13 +86,17 @@ fn feed_all(policy: &[u8], line: &mut [u8], room: &mut [u32]) -> Step {
 }
 
 // All records, and then the result; nothing more where the input cannot be read to its end.
-fn refine_log(policy: &[u8], room: &mut [u32]) {
+fn refine_log(run: &[u32])
+    requires { ⌜ HeldSound (now run) ⌝ }
+{
+    let mut room = [0u32; 16384];
+    let mut request = [0u32; 8448];
     let mut line = [0u8; LINE];
-    let s = feed_all(policy, &mut line, room);
+    let s = feed_all(run, &mut line, &mut request, &mut room);
     match s {
         Step::Ended(at) => {
-            reading::feed_last(policy, &line, at, room);
-            finish(policy, room);
+            reading::feed_last(run, &line, at, &mut request, &mut room);
+            finish(run, &room);
         }
         Step::Fed(_) => {}
         Step::Failed => {
@@ -85,21 +105,18 @@ fn refine_log(policy: &[u8], room: &mut [u32]) {
     }
 }
 
-// A policy that is refused is told at once: on an empty room Finish gives its refusal, or 10.
+// The policy is read once; one that is refused is told before a record is looked at.
 fn run(policy: &[u8]) {
-    let mut room = [0u32; 16384];
-    let mut out = [0u8; 1];
-    let a = refine::operations::finish(policy, &room, &mut out);
-    match a {
-        writing::operations::Answer::Written(_) => {}
-        writing::operations::Answer::Refused(f) => {
-            if policy::refusals::number(f) < 6 {
-                say_refused(f);
-                return;
-            }
+    let mut run = [0u32; 16384];
+    let h = policy::reading::read_policy(policy, &mut run);
+    match h {
+        Read::Held(_) => {
+            refine_log(&run);
+        }
+        Read::Refused(f) => {
+            say_refused(f);
         }
     }
-    refine_log(policy, &mut room);
 }
 
 fn no_policy() {

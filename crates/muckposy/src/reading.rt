@@ -1,6 +1,7 @@
-// Lines of any length from pieces of the input, in constant room.
+// Lines of any length from pieces of the input, in constant room. The policy is held, and its room stays the policy's.
+ghost use Rattle.refine.specs.Sound.{Kept};
 use crate::printing;
-use text::lines::Line;
+use chars::lines::Line;
 
 // The bytes of the line that is not ended yet, as far as they are kept, and its number.
 pub struct Reached {
@@ -17,11 +18,14 @@ fn after(n: u64) -> u64 {
 }
 
 // A record; empty lines are skipped.
-fn feed_line(policy: &[u8], line: &[u8], number: u64, room: &mut [u32]) {
+fn feed_line(run: &[u32], line: &[u8], number: u64, request: &mut [u32], room: &mut [u32])
+    requires { ⌜ Kept (now run) (now request) (now room) ⌝ }
+    ensures { λ r. ⌜ Kept (now (run .entry)) (now (request .exit)) (now (room .exit)) ⌝ }
+{
     if line.len() == 0 {
         return;
     }
-    let a = refine::operations::feed(policy, line, room);
+    let a = refine::operations::feed_record(run, line, request, room);
     match a {
         decision::operations::Answer::Decided(_) => {}
         decision::operations::Answer::Refused(f) => {
@@ -32,34 +36,41 @@ fn feed_line(policy: &[u8], line: &[u8], number: u64, room: &mut [u32]) {
 
 // A line that is ended: what was kept of it, and the last part.
 fn feed_ended(
-    policy: &[u8],
+    run: &[u32],
     line: &mut [u8],
-    have: usize,
+    at: Reached,
     part: &[u8],
-    number: u64,
+    request: &mut [u32],
     room: &mut [u32],
-) {
-    if have == 0 {
-        feed_line(policy, part, number, room);
+)
+    requires { ⌜ Kept (now run) (now request) (now room) ⌝ }
+    ensures { λ r. ⌜ Kept (now (run .entry)) (now (request .exit)) (now (room .exit)) ⌝ }
+{
+    if at.have == 0 {
+        feed_line(run, part, at.number, request, room);
         return;
     }
-    let n = printing::add(line, have, part);
-    feed_line(policy, &line[..n], number, room);
+    let n = printing::add(line, at.have, part);
+    feed_line(run, &line[..n], at.number, request, room);
 }
 
 // The lines of a piece of the input; the last is kept if it is not ended there.
 pub fn feed_lines(
-    policy: &[u8],
+    run: &[u32],
     chunk: &[u8],
     line: &mut [u8],
     from: Reached,
+    request: &mut [u32],
     room: &mut [u32],
-) -> Reached {
+) -> Reached
+    requires { ⌜ Kept (now run) (now request) (now room) ⌝ }
+    ensures { λ r. ⌜ Kept (now (run .entry)) (now (request .exit)) (now (room .exit)) ⌝ }
+{
     let mut at = 0usize;
     let mut have = from.have;
     let mut number = from.number;
     loop {
-        let l = text::lines::line_at(chunk, at);
+        let l = chars::lines::line_at(chunk, at);
         let Line::Here { end, next } = l else {
             return Reached {
                 have: have,
@@ -72,7 +83,11 @@ pub fn feed_lines(
                 number: number,
             };
         }
-        feed_ended(policy, line, have, &chunk[at..end], number, room);
+        let part = Reached {
+            have: have,
+            number: number,
+        };
+        feed_ended(run, line, part, &chunk[at..end], request, room);
         have = 0;
         number = after(number);
         at = next;
@@ -80,9 +95,12 @@ pub fn feed_lines(
 }
 
 // The last line, if the input does not end it.
-pub fn feed_last(policy: &[u8], line: &[u8], at: Reached, room: &mut [u32]) {
+pub fn feed_last(run: &[u32], line: &[u8], at: Reached, request: &mut [u32], room: &mut [u32])
+    requires { ⌜ Kept (now run) (now request) (now room) ⌝ }
+    ensures { λ r. ⌜ Kept (now (run .entry)) (now (request .exit)) (now (room .exit)) ⌝ }
+{
     let n = at.have;
     if n <= line.len() {
-        feed_line(policy, &line[..n], at.number, room);
+        feed_line(run, &line[..n], at.number, request, room);
     }
 }

@@ -1,3 +1,2 @@
 -- Laws of `policy`'s definitions, which the proofs of its functions and of the crates above cite.
 pub mod Laws
-mod Trials

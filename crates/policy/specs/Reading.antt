@@ -9,17 +9,17 @@ use mathlib.Core.Bool.{Bool, true, false}
 use mathlib.Core.List.{List}
 use Prim.Native.Nat.{ℕ, _+_, _≤_, _<_}
 use lib.ListN.{length, take}
-use Rattle.text.specs.Base.{pick}
+use Rattle.chars.specs.Base.{pick}
 use Rattle.text.specs.Json.{Json, levels}
 use Rattle.text.specs.Verdicts.{Text, BreaksAt, Sinks}
 use Rattle.text.specs.Machine.{verdict}
 use Rattle.text.specs.declared.scan.Verdict.the-variants.{Whole}
-use Rattle.policy.specs.Limits.{policyBytes, recordBytes, runNumbers}
-use Rattle.policy.specs.Policy.{Policy, Request}
-use Rattle.policy.specs.Forms.{Reading, wrong, read}
-use Rattle.policy.specs.PolicyLayout.{policyOf}
-use Rattle.policy.specs.RecordLayout.{requestOf}
-use Rattle.policy.specs.Held.{overLimit}
+use Rattle.syntax.specs.Limits.{policyBytes, recordBytes, runNumbers}
+use Rattle.syntax.specs.Policy.{Policy, Request}
+use Rattle.syntax.specs.Forms.{Reading, wrong, read}
+use Rattle.syntax.specs.PolicyLayout.{policyOf}
+use Rattle.syntax.specs.RecordLayout.{requestOf}
+use Rattle.held.specs.Held.{overLimit}
 use Rattle.policy.specs.declared.refusals.Refusal.{Refusal}
 use Rattle.policy.specs.declared.refusals.Refusal.the-variants.{PolicyLength, PolicyText, PolicyLayout}
 use Rattle.policy.specs.declared.refusals.Refusal.the-variants.{PolicyLimit, RecordLength, RecordText}

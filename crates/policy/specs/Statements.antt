@@ -8,14 +8,14 @@ use Prim.Native.Nat.{ℕ, _+_, _≤_}
 use lib.ListN.{length}
 use Rattle.text.specs.Json.{Json}
 use Rattle.text.specs.Contents.{Stands}
-use Rattle.policy.specs.Limits.{runNumbers}
-use Rattle.policy.specs.Policy.{Effect, Row}
-use Rattle.policy.specs.Forms.{Reading, wrong, read}
-use Rattle.policy.specs.Members.{then, Slot, none, many, one, optional, oneOrMore}
-use Rattle.policy.specs.Slots.{Placed}
-use Rattle.policy.specs.PolicyLayout.{actionOf, resourceOf, conditionOf, sidOf}
-use Rattle.policy.specs.Held.{heldText, heldList, heldRow, effectNumber}
-use Rattle.policy.specs.Room.{cost, costOf, Roomy}
+use Rattle.syntax.specs.Limits.{runNumbers}
+use Rattle.syntax.specs.Policy.{Effect, Row}
+use Rattle.syntax.specs.Forms.{Reading, wrong, read}
+use Rattle.syntax.specs.Members.{then, Slot, none, many, one, optional, oneOrMore}
+use Rattle.parts.specs.Slots.{Placed}
+use Rattle.syntax.specs.PolicyLayout.{actionOf, resourceOf, conditionOf, sidOf}
+use Rattle.held.specs.Held.{heldText, heldList, heldRow, effectNumber}
+use Rattle.parts.specs.Room.{cost, costOf, Roomy}
 
 abbrev pub effectTold : Reading Effect → ℕ
 effectTold wrong = 0

@@ -1,13 +1,13 @@
 // A policy text and a record, any bytes: held in a lent run, or refused by number and place.
-ghost use Rattle.policy.specs.Limits.{policyBytes, recordBytes};
-ghost use Rattle.policy.specs.Held.{held, heldRequest};
+ghost use Rattle.syntax.specs.Limits.{policyBytes, recordBytes};
+ghost use Rattle.held.specs.Held.{held, heldRequest};
 ghost use Rattle.policy.specs.Reading.{policyRules, recordRules, Answers, Lent, Fit};
-use crate::holding::Held;
-use crate::limits;
 use crate::refusals::Refusal;
 use crate::requests;
-use crate::runs;
 use crate::statements;
+use held::limits;
+use held::runs;
+use parts::holding::Held;
 use text::scan;
 use text::scan::Verdict;
 use text::walk;

@@ -6,7 +6,7 @@ use mathlib.Core.Path.{_≡_}
 use mathlib.Core.List.{List}
 use Prim.Native.Nat.{ℕ}
 use lib.ListN.{length}
-use Rattle.policy.specs.Limits.{runNumbers}
+use Rattle.syntax.specs.Limits.{runNumbers}
 use Rattle.policy.specs.Refusals.{numberOf, placeOf}
 use Rattle.policy.specs.Reading.{Rules, Answers}
 use Rattle.policy.specs.declared.reading.Read.{Read}

@@ -1,6 +1,6 @@
 // The readers of policies and records as numbers, for tests from Rust. No part of the product.
 ghost use mathlib.Core.Path.{_≡_};
-ghost use Rattle.policy.specs.Held.{held, heldRequest};
+ghost use Rattle.held.specs.Held.{held, heldRequest};
 ghost use Rattle.policy.specs.Reading.{policyRules, recordRules};
 ghost use Rattle.policy_probe.specs.Numbers.{ofRead, Tells};
 use policy::reading;

@@ -11,8 +11,8 @@ use mathlib.Core.List.{List}
 use Prim.Native.Nat.{ℕ}
 use lib.Dec.{eqb}
 use lib.ListN.{length, replicate}
-use Rattle.text.specs.Base.{pick}
-use Rattle.policy.specs.Policy.{Policy, Request}
+use Rattle.chars.specs.Base.{pick}
+use Rattle.syntax.specs.Policy.{Policy, Request}
 use Rattle.policy.specs.Reading.{Outcome, refused, known, policyRules, recordRules, Says}
 use Rattle.policy.specs.declared.refusals.Refusal.{Refusal}
 use Rattle.policy.specs.declared.refusals.Refusal.the-variants.{RoomLength, RoomContent, NoAllow}
@@ -20,8 +20,8 @@ use Rattle.decision.specs.Decision.{decide}
 use Rattle.decision.specs.declared.deciding.Decision.{Decision}
 use Rattle.writing.specs.WrittenForm.{writtenPolicy}
 use Rattle.writing.specs.Operations.{handed}
-use Rattle.refine.specs.Rooms.{slots, fits, charges, fed, met}
-use Rattle.refine.specs.Finishing.{refinedPolicy, hasAllow}
+use Rattle.rooms.specs.Rooms.{slots, fits, charges, fed, met}
+use Rattle.refined.specs.Finishing.{refinedPolicy, hasAllow}
 use Rattle.refine.specs.declared.operations.Answer.{Answer}
 use Rattle.refine.specs.declared.operations.Answer.the-variants as A
 

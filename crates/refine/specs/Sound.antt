@@ -1,16 +1,17 @@
 -- Sound: what is known of a policy and of a request once they were read, and what an operation on a room comes to then.
 --   Sound p             the policy is valid and within its limits;  ShortRequest q   the texts of q are within theirs
 --   HeldSound, HeldShort, Holding   such things lie at a run's beginning; and a room is such a policy's
+--   Kept                a policy that was read, its room, and a run for requests: what is lent from one record to the next
 --   PolicyFeeds ..      Feed, Join and Finish under a policy that was read: their relations, but for 1 to 5
 use mathlib.Core.Path.{_≡_}
 use mathlib.Core.Bool.{true, false}
 use mathlib.Core.List.{List}
 use Prim.Native.Nat.{ℕ, _≤_}
 use lib.ListN.{length}
-use Rattle.policy.specs.Limits.{entryCharacters}
-use Rattle.policy.specs.Policy.{Policy, Context, Request}
-use Rattle.policy.specs.Held.{held, heldRequest, overLimit}
-use Rattle.policy.specs.Lying.{Lies}
+use Rattle.syntax.specs.Limits.{entryCharacters}
+use Rattle.syntax.specs.Policy.{Policy, Context, Request}
+use Rattle.held.specs.Held.{held, heldRequest, overLimit}
+use Rattle.held.specs.Lying.{Lies}
 use Rattle.policy.specs.Reading.{Outcome, refused, known, recordRules, Says}
 use Rattle.policy.specs.declared.refusals.Refusal.{Refusal}
 use Rattle.policy.specs.declared.refusals.Refusal.the-variants.{RoomContent, NoAllow}
@@ -19,9 +20,9 @@ use Rattle.decision.specs.declared.deciding.Decision.{Decision}
 use Rattle.writing.specs.Valid.{Each, Valid}
 use Rattle.writing.specs.WrittenForm.{writtenPolicy}
 use Rattle.writing.specs.Operations.{handed}
-use Rattle.refine.specs.Rooms.{slots, charges, fed, met}
-use Rattle.refine.specs.Walking.{Short}
-use Rattle.refine.specs.Finishing.{refinedPolicy, hasAllow}
+use Rattle.rooms.specs.Rooms.{slots, charges, fed, met}
+use Rattle.rooms.specs.Walking.{Short}
+use Rattle.refined.specs.Finishing.{refinedPolicy, hasAllow}
 use Rattle.refine.specs.Operations.{isRoom, holdsFor, Done, done}
 
 pub record Sound (p : Policy) : Type 0 where
@@ -43,6 +44,14 @@ pub record Holding (run room : List ℕ) : Type 0 where
   pub held-sound : HeldSound run
   pub size : isRoom room ≡ true
   pub content : holdsFor (held-sound .policy) room ≡ true
+
+-- enough for every record that may be read, and one number more
+abbrev pub requestNumbers : ℕ
+requestNumbers = 8448
+
+pub record Kept (run request room : List ℕ) : Type 0 where
+  pub holding : Holding run room
+  pub size : length request ≡ requestNumbers
 
 pub record HeldShort (run : List ℕ) : Type 0 where
   pub request : Request

@@ -1,25 +1,25 @@
 // The operations on rooms, over bytes and numbers.
 ghost use mathlib.Core.Path.{_≡_};
 ghost use mathlib.Core.Bool.{true};
-ghost use Rattle.policy.specs.Policy.{Policy, Request};
-ghost use Rattle.policy.specs.Held.{held, heldRequest};
-ghost use Rattle.policy.specs.Lying.{Lies, Lying};
+ghost use Rattle.syntax.specs.Policy.{Policy, Request};
+ghost use Rattle.held.specs.Held.{held, heldRequest};
+ghost use Rattle.held.specs.Lying.{Lies, Lying};
 ghost use Rattle.decision.specs.Decision.{decide};
 ghost use Rattle.decision.specs.Operations as deciding;
 ghost use Rattle.writing.specs.Operations as writing;
-ghost use Rattle.refine.specs.Rooms.{slots, allowedCharges, charges, fed};
+ghost use Rattle.rooms.specs.Rooms.{slots, allowedCharges, charges, fed};
 ghost use Rattle.refine.specs.Operations.{isRoom, holdsFor, Feeds, Joins, Finishes, freshened, toldDone};
 ghost use Rattle.refine.specs.Sound.{Sound, ShortRequest, HeldSound, HeldShort, PolicyFeeds, PolicyJoins};
-ghost use Rattle.refine.specs.Sound.{PolicyFinishes, Holding};
-use crate::finishing;
-use crate::listing;
-use crate::rows;
-use crate::walking;
+ghost use Rattle.refine.specs.Sound.{PolicyFinishes, Holding, Kept};
+use candidates::rows;
 use decision::deciding;
 use decision::deciding::Decision;
 use policy::reading;
 use policy::reading::Read;
 use policy::refusals::Refusal;
+use refined::finishing;
+use rooms::listing;
+use rooms::walking;
 
 // The numbers of a room.
 const ROOM: usize = 16384;
@@ -66,15 +66,19 @@ fn feed_request(run: &[u32], request: &[u32], room: &mut [u32]) -> Decision
     }
 }
 
-// Feed, under a held policy whose room this is.
-fn feed_record(run: &[u32], asked: &[u8], room: &mut [u32]) -> decision::operations::Answer
-    requires { ⌜ Holding (now run) (now room) ⌝ }
-    ensures { λ r. ⌜ ((p : Policy) → Lies (now (run .entry)) 0 (held p) → Sound p → holdsFor p (now (room .entry)) ≡ true → PolicyFeeds p (now (asked .entry)) (now (room .entry)) (deciding.toldAnswer r) (now (room .exit))) ⌝ }
+// Feed, under a held policy whose room this is, with a run lent for the request: the room stays such a one.
+pub fn feed_record(
+    run: &[u32],
+    asked: &[u8],
+    request: &mut [u32],
+    room: &mut [u32],
+) -> decision::operations::Answer
+    requires { ⌜ Kept (now run) (now request) (now room) ⌝ }
+    ensures { λ r. ⌜ (Kept (now (run .entry)) (now (request .exit)) (now (room .exit))) × ((p : Policy) → Lies (now (run .entry)) 0 (held p) → Sound p → holdsFor p (now (room .entry)) ≡ true → PolicyFeeds p (now (asked .entry)) (now (room .entry)) (deciding.toldAnswer r) (now (room .exit))) ⌝ }
 {
-    let mut request = [0u32; 8448];
-    let h = reading::read_record(asked, &mut request);
+    let h = reading::read_record(asked, request);
     match h {
-        Read::Held(_) => decision::operations::Answer::Decided(feed_request(run, &request, room)),
+        Read::Held(_) => decision::operations::Answer::Decided(feed_request(run, request, room)),
         Read::Refused(f) => decision::operations::Answer::Refused(f),
     }
 }
@@ -87,7 +91,8 @@ fn feed_held(run: &[u32], asked: &[u8], room: &mut [u32]) -> decision::operation
     if !holds_room(run, room) {
         return decision::operations::Answer::Refused(Refusal::RoomContent);
     }
-    feed_record(run, asked, room)
+    let mut request = [0u32; 8448];
+    feed_record(run, asked, &mut request, room)
 }
 
 pub fn feed(policy: &[u8], asked: &[u8], room: &mut [u32]) -> decision::operations::Answer
@@ -139,7 +144,7 @@ pub fn join(policy: &[u8], room: &mut [u32], other: &[u32]) -> Answer
 }
 
 // Finish, under a held policy: 10, or the refined policy handed out.
-fn finish_held(run: &[u32], room: &[u32], out: &mut [u8]) -> writing::operations::Answer
+pub fn finish_held(run: &[u32], room: &[u32], out: &mut [u8]) -> writing::operations::Answer
     requires { ⌜ (HeldSound (now run)) × (isRoom (now room) ≡ true) ⌝ }
     ensures { λ r. ⌜ ((p : Policy) → Lies (now (run .entry)) 0 (held p) → Sound p → PolicyFinishes p (now (room .entry)) (now (out .entry)) (writing.toldAnswer r) (now (out .exit))) ⌝ }
 {

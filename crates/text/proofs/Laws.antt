@@ -1,5 +1,4 @@
 -- Laws of the definitions in specs/: each file rests only on files named before it.
-pub mod Tests
 pub mod Reading
 pub mod Moves
 pub mod Places
@@ -22,8 +21,4 @@ pub mod Stable
 pub mod Verdict
 pub mod Contents
 pub mod Meaning
-pub mod Lines
-pub mod Putting
-pub mod Strings
-pub mod Written
 pub mod Printing

@@ -5,17 +5,17 @@ use mathlib.Core.List.{List, [], _∷_, _++_}
 use Prim.Native.Nat.{ℕ}
 use lib.Dec.{eqb}
 use lib.ListN.{replicate}
-use Rattle.text.specs.Base.{pick, oneOf}
+use Rattle.chars.specs.Base.{pick, oneOf}
 use Rattle.text.specs.Machine.{leads, high, begins, move, optional, feed, ends, run, from, verdictAt, verdict}
-use Rattle.text.specs.Decoding.{Text, lone, equal, textOf, meaning, unitsBehind, readOf, sequenceOf}
-use Rattle.text.specs.Decoding.{hexOf, codeAt, letterOf}
-use Rattle.text.specs.Written.{coded, written, writtenText}
-use Rattle.text.specs.Lines.{unbroken, lineAt}
+use Rattle.chars.specs.Decoding.{Text, lone, equal, textOf, meaning, unitsBehind, readOf, sequenceOf}
+use Rattle.chars.specs.Decoding.{hexOf, codeAt, letterOf}
+use Rattle.chars.specs.Written.{coded, written, writtenText}
+use Rattle.chars.specs.Lines.{unbroken, lineAt}
 use Rattle.text.specs.declared.scan.Verdict.{Verdict}
 use Rattle.text.specs.declared.scan.Verdict.the-variants.{Whole, Breaks, Deep}
-use Rattle.text.specs.declared.lines.Line.{Line}
-use Rattle.text.specs.declared.lines.Line.the-variants.{Here, None}
-use Rattle.text.proofs.Laws.Strings.{said}
+use Rattle.chars.specs.declared.lines.Line.{Line}
+use Rattle.chars.specs.declared.lines.Line.the-variants.{Here, None}
+use Rattle.chars.proofs.Laws.Strings.{said}
 
 -- the verdict on a text; the characters of a string; the written form of characters; the line that begins at a place
 data Trial : Type 0 where

@@ -9,7 +9,7 @@ use mathlib.Core.Bool.{Bool, true, false}
 use mathlib.Core.List.{List}
 use Prim.Native.Nat.{ℕ, _+_, _≤_, _<_}
 use lib.ListN.{length}
-use Rattle.text.specs.Base.{In, At, part}
+use Rattle.chars.specs.Base.{In, At, part}
 use Rattle.text.specs.Json.{Json, Values, Members, null, bool, number, string, list, object, no-more, also}
 use Rattle.text.specs.Json.{no-members, named, depth, depths, depthm, levels, a-value, rest, members, more}
 use Rattle.text.specs.Json.{Reads, JsonText}

@@ -11,8 +11,8 @@ use mathlib.Core.Bool.{Bool, true, false}
 use mathlib.Core.List.{List, [], _∷_, _++_}
 use Prim.Native.Nat.{ℕ, suc, _+_, _≤_, max}
 use lib.ListN.{length}
-use Rattle.text.specs.Base.{In, At, part}
-use Rattle.text.specs.Strings.{Unit, Body}
+use Rattle.chars.specs.Base.{In, At, part}
+use Rattle.chars.specs.Strings.{Unit, Body}
 
 -- ---- what a text says
 

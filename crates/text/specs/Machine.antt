@@ -8,7 +8,7 @@ use mathlib.Core.List.{List, [], _∷_, _++_, map}
 use Prim.Native.Nat.{ℕ, zero, suc, _+_}
 use lib.Dec.{eqb}
 use lib.ListN.{drop, replicate}
-use Rattle.text.specs.Base.{pick, within, oneOf}
+use Rattle.chars.specs.Base.{pick, within, oneOf}
 use Rattle.text.specs.Json.{levels}
 use Rattle.text.specs.declared.scan.Shape.{Shape}
 use Rattle.text.specs.declared.scan.Shape.the-variants.{List as list, Object as object}

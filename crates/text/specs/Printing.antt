@@ -5,7 +5,7 @@
 use mathlib.Core.Bool.{Bool, true, false}
 use mathlib.Core.List.{List, [], _∷_, _++_}
 use Prim.Native.Nat.{ℕ}
-use Rattle.text.specs.Strings.{Unit, Body}
+use Rattle.chars.specs.Strings.{Unit, Body}
 use Rattle.text.specs.Json.{Json, Values, Members, null, bool, number, string, list, object, no-more, also}
 use Rattle.text.specs.Json.{no-members, named, Number}
 

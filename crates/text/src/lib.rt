@@ -1,6 +1,3 @@
-// Text: bytes to a JSON text's contents and characters, and back. Knows no policy, no record and no refusal number.
-pub mod lines;
+// Text: bytes to a JSON text and its contents. Knows no policy, no record and no refusal number.
 pub mod scan;
-pub mod strings;
 pub mod walk;
-pub mod written;

@@ -5,7 +5,7 @@ ghost use mathlib.Core.Bool.{false};
 ghost use mathlib.Core.Path.{_≡_};
 ghost use Prim.Native.Nat.{_+_, _≤_};
 ghost use lib.ListN.{length, replicate};
-ghost use Rattle.text.specs.Base.{At};
+ghost use Rattle.chars.specs.Base.{At};
 ghost use Rattle.text.specs.Machine.{ws, byte, range, hex, text, char, move, go, escape, digits, digit};
 ghost use Rattle.text.specs.Machine.{integer, fraction, exponent, sign, value, before, close, verdict};
 ghost use Rattle.text.specs.Reading.{Leads, Done, Blank, Goes, Begins, Opens, Follows};

@@ -6,15 +6,15 @@ use mathlib.Core.List.{List}
 use Prim.Native.Nat.{ℕ}
 use lib.ListN.{length}
 use Rattle.text.specs.Machine.{verdict}
-use Rattle.text.specs.Decoding.{textOf, decodedOf}
-use Rattle.text.specs.Putting.{lay}
-use Rattle.text.specs.Written.{writtenText, writeOf}
+use Rattle.chars.specs.Decoding.{textOf, decodedOf}
+use Rattle.chars.specs.Putting.{lay}
+use Rattle.chars.specs.Written.{writtenText, writeOf}
 use Rattle.text.specs.declared.scan.Verdict.{Verdict}
 use Rattle.text.specs.declared.scan.Verdict.the-variants.{Whole, Breaks, Deep}
-use Rattle.text.specs.declared.strings.Decoded.{Decoded}
-use Rattle.text.specs.declared.strings.Decoded.the-variants as D
-use Rattle.text.specs.declared.written.Written.{Written}
-use Rattle.text.specs.declared.written.Written.the-variants as W
+use Rattle.chars.specs.declared.strings.Decoded.{Decoded}
+use Rattle.chars.specs.declared.strings.Decoded.the-variants as D
+use Rattle.chars.specs.declared.written.Written.{Written}
+use Rattle.chars.specs.declared.written.Written.the-variants as W
 use Rattle.text_probe.specs.declared.Answer.{Answer}
 
 abbrev pub answer : ℕ → ℕ → Answer

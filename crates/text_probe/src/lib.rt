@@ -1,12 +1,12 @@
 // The text layer as numbers, for tests and measurements from Rust. No part of the product.
 ghost use mathlib.Core.Path.{_≡_};
 ghost use Rattle.text_probe.specs.Numbers.{scanning, decoding, writing};
+use chars::strings;
+use chars::strings::Decoded;
+use chars::written;
+use chars::written::Written;
 use text::scan;
 use text::scan::Verdict;
-use text::strings;
-use text::strings::Decoded;
-use text::written;
-use text::written::Written;
 
 // Which answer it is, and the number that it holds, or 0 where it holds none.
 #[repr(C)]

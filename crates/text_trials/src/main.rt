@@ -2,10 +2,10 @@
 //   j BYTES   the scan's verdict on the bytes as a JSON text
 //   s BYTES   the characters of the bytes as what stands between two quotes, and behind a bar their written form
 ghost use Prim.Native.Nat.{_<_, _≤_};
-use text::lines::Line;
+use chars::lines::Line;
+use chars::strings::Decoded;
+use chars::written::Written;
 use text::scan::Verdict;
-use text::strings::Decoded;
-use text::written::Written;
 
 // A hexadecimal digit's number.
 fn digit(b: u8) -> u8
@@ -80,7 +80,7 @@ fn say_bytes(out: &[u8], n: usize) {
 
 fn say_written(cs: &[u32]) {
     let mut out = [0u8; 8192];
-    let w = text::written::write_text(cs, &mut out);
+    let w = chars::written::write_text(cs, &mut out);
     match w {
         Written::Count(n) => {
             io::write_all(1, b"| ");
@@ -102,7 +102,7 @@ fn say_text(cs: &[u32], n: usize) {
 
 fn say_decoded(s: &[u8]) {
     let mut run = [0u32; 2048];
-    let d = text::strings::decode(s, &mut run);
+    let d = chars::strings::decode(s, &mut run);
     match d {
         Decoded::Count(n) => {
             say_text(&run, n);
@@ -142,7 +142,7 @@ fn answer(line: &[u8]) {
 fn run(s: &[u8]) {
     let mut at = 0;
     loop {
-        let l = text::lines::line_at(s, at);
+        let l = chars::lines::line_at(s, at);
         let Line::Here { end, next } = l else {
             return;
         };

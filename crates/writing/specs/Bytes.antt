@@ -8,13 +8,13 @@ use mathlib.Core.Bool.{Bool}
 use mathlib.Core.List.{List, [], _∷_, _++_, map}
 use Prim.Native.Nat.{ℕ, zero, suc}
 use lib.Dec.{eqb}
-use Rattle.text.specs.Base.{pick}
-use Rattle.text.specs.Written.{writtenText}
+use Rattle.chars.specs.Base.{pick}
+use Rattle.chars.specs.Written.{writtenText}
 use Rattle.text.specs.Printing.{quoted}
-use Rattle.policy.specs.Policy.{Value, text, number, Row, Statement}
-use Rattle.policy.specs.Held.{effectNumber, operatorNumber}
-use Rattle.policy.specs.Words.{sidWord, effectWord, actionWord, resourceWord, conditionWord, allowWord, denyWord}
-use Rattle.policy.specs.Words.{stringEqualsWord, stringLikeWord, numericLessThanEqualsWord}
+use Rattle.syntax.specs.Policy.{Value, text, number, Row, Statement}
+use Rattle.held.specs.Held.{effectNumber, operatorNumber}
+use Rattle.syntax.specs.Words.{sidWord, effectWord, actionWord, resourceWord, conditionWord, allowWord, denyWord}
+use Rattle.syntax.specs.Words.{stringEqualsWord, stringLikeWord, numericLessThanEqualsWord}
 use Rattle.writing.specs.WrittenForm.{bare, spelled, digitsOf}
 
 -- a member's name, and what stands before its value

@@ -9,10 +9,10 @@ use mathlib.Core.List.{List}
 use Prim.Native.Nat.{ℕ}
 use lib.Dec.{ltb}
 use lib.ListN.{length}
-use Rattle.text.specs.Base.{pick}
-use Rattle.text.specs.Putting.{lay}
-use Rattle.policy.specs.Limits.{resultBytes}
-use Rattle.policy.specs.Policy.{Policy}
+use Rattle.chars.specs.Base.{pick}
+use Rattle.chars.specs.Putting.{lay}
+use Rattle.syntax.specs.Limits.{resultBytes}
+use Rattle.syntax.specs.Policy.{Policy}
 use Rattle.policy.specs.Reading.{Outcome, refused, known, policyRules, Says}
 use Rattle.policy.specs.declared.refusals.Refusal.{Refusal}
 use Rattle.policy.specs.declared.refusals.Refusal.the-variants.{ResultLength, OutputLength}

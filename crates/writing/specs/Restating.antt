@@ -4,7 +4,7 @@ use mathlib.Core.Path.{_≡_}
 use mathlib.Core.List.{List}
 use Prim.Native.Nat.{ℕ}
 use lib.ListN.{take}
-use Rattle.policy.specs.Policy.{Policy}
+use Rattle.syntax.specs.Policy.{Policy}
 use Rattle.policy.specs.Reading.{Outcome, refused, known, policyRules, Says}
 use Rattle.policy.specs.declared.refusals.Refusal.{Refusal}
 use Rattle.decision.specs.Operations.{Decides}

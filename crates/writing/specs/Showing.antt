@@ -6,7 +6,7 @@ use mathlib.Core.Path.{_≡_}
 use mathlib.Core.List.{List, _++_}
 use Prim.Native.Nat.{ℕ, suc, _<_}
 use lib.ListN.{length}
-use Rattle.policy.specs.Limits.{resultBytes}
+use Rattle.syntax.specs.Limits.{resultBytes}
 
 pub data Shows (ws : List ℕ) (at : ℕ) (out : List ℕ) : Type 0 where
   whole : length out ≡ resultBytes → (rest : List ℕ) → out ≡ ws ++ rest → at ≡ length ws → Shows ws at out

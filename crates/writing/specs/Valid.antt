@@ -7,13 +7,13 @@ use mathlib.Core.Path.{_≡_}
 use mathlib.Core.Bool.{true}
 use mathlib.Core.List.{List, [], _∷_, map}
 use Prim.Native.Nat.{ℕ, _≤_}
-use Rattle.text.specs.Written.{Scalar, Scalars}
-use Rattle.policy.specs.Limits.{greatest}
-use Rattle.policy.specs.Policy.{star, any, Operator, StringEquals, StringLike, NumericLessThanEquals, Value, text}
-use Rattle.policy.specs.Policy.{number, Row, Statement, Policy}
-use Rattle.policy.specs.Forms.{isAction, wildcard, isResource, isSid, isKey}
-use Rattle.policy.specs.Members.{differ}
-use Rattle.policy.specs.PolicyLayout.{Group, sameRow, sameGroup, sameSid}
+use Rattle.chars.specs.Written.{Scalar, Scalars}
+use Rattle.syntax.specs.Limits.{greatest}
+use Rattle.syntax.specs.Policy.{star, any, Operator, StringEquals, StringLike, NumericLessThanEquals, Value, text}
+use Rattle.syntax.specs.Policy.{number, Row, Statement, Policy}
+use Rattle.syntax.specs.Forms.{isAction, wildcard, isResource, isSid, isKey}
+use Rattle.syntax.specs.Members.{differ}
+use Rattle.syntax.specs.PolicyLayout.{Group, sameRow, sameGroup, sameSid}
 use Rattle.writing.specs.WrittenForm.{grouped}
 
 -- each of the things is as P says

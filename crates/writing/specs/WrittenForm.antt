@@ -10,17 +10,17 @@ use mathlib.Core.Bool.{Bool, true, false}
 use mathlib.Core.List.{List, [], _∷_, _++_, map}
 use Prim.Native.Nat.{ℕ, zero, suc, _+_, _/_, _%_}
 use lib.Dec.{eqb, ltb}
-use Rattle.text.specs.Base.{pick, oneOf}
+use Rattle.chars.specs.Base.{pick, oneOf}
 use Rattle.text.specs.Json.{Json, string, list, object, Values, no-more, also, Members, no-members, named}
-use Rattle.text.specs.Written.{writtenText}
+use Rattle.chars.specs.Written.{writtenText}
 use Rattle.text.specs.Printing.{printed}
-use Rattle.policy.specs.Policy.{star, any, Effect, Allow, Deny, Operator, StringEquals, StringLike}
-use Rattle.policy.specs.Policy.{NumericLessThanEquals, Value, text, number, Row, Statement, Policy}
-use Rattle.policy.specs.Forms.{both, either}
-use Rattle.policy.specs.Words.{versionWord, statementWord, editionWord, sidWord, effectWord, actionWord}
-use Rattle.policy.specs.Words.{resourceWord, conditionWord, allowWord, denyWord, stringEqualsWord, stringLikeWord}
-use Rattle.policy.specs.Words.{numericLessThanEqualsWord}
-use Rattle.policy.specs.PolicyLayout.{sameOperator, Group}
+use Rattle.syntax.specs.Policy.{star, any, Effect, Allow, Deny, Operator, StringEquals, StringLike}
+use Rattle.syntax.specs.Policy.{NumericLessThanEquals, Value, text, number, Row, Statement, Policy}
+use Rattle.syntax.specs.Forms.{both, either}
+use Rattle.syntax.specs.Words.{versionWord, statementWord, editionWord, sidWord, effectWord, actionWord}
+use Rattle.syntax.specs.Words.{resourceWord, conditionWord, allowWord, denyWord, stringEqualsWord, stringLikeWord}
+use Rattle.syntax.specs.Words.{numericLessThanEqualsWord}
+use Rattle.syntax.specs.PolicyLayout.{sameOperator, Group}
 
 -- ---- characters
 

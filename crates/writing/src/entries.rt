@@ -1,16 +1,16 @@
 // Entries of a held policy, and lists of them.
 ghost use Prim.Native.Nat.{ℕ};
 ghost use mathlib.Core.List.{List};
-ghost use Rattle.policy.specs.Policy.{Value};
-ghost use Rattle.policy.specs.Held.{heldValue, heldNumber, heldList};
-ghost use Rattle.policy.specs.Lying.{Lies, Lying};
+ghost use Rattle.syntax.specs.Policy.{Value};
+ghost use Rattle.held.specs.Held.{heldValue, heldNumber, heldList};
+ghost use Rattle.held.specs.Lying.{Lies, Lying};
 ghost use Rattle.writing.specs.Showing.{Adds};
 ghost use Rattle.writing.specs.Bytes.{entryBody, entryBytes, listBytes};
 ghost use Rattle.writing.specs.WrittenForm.{digitsOf};
 use crate::sink;
 use crate::spelling;
-use policy::limits;
-use policy::places;
+use held::limits;
+use held::places;
 
 // The number that lies at a place.
 fn put_number(run: &[u32], at: usize, out: &mut [u8], o: usize) -> usize

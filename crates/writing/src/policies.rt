@@ -1,12 +1,12 @@
 // A held policy, written out.
-ghost use Rattle.policy.specs.Policy.{Policy};
-ghost use Rattle.policy.specs.Held.{held};
-ghost use Rattle.policy.specs.Lying.{Lies, Lying};
+ghost use Rattle.syntax.specs.Policy.{Policy};
+ghost use Rattle.held.specs.Held.{held};
+ghost use Rattle.held.specs.Lying.{Lies, Lying};
 ghost use Rattle.writing.specs.WrittenForm.{writtenPolicy};
 ghost use Rattle.writing.specs.Showing.{Adds};
 use crate::sink;
 use crate::statements;
-use policy::runs;
+use held::runs;
 
 pub fn put_policy(run: &[u32], out: &mut [u8]) -> usize
     requires { ⌜ Lying held (now run) 0 ⌝ }

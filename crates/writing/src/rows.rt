@@ -1,15 +1,15 @@
 // Condition rows of a held policy, by their operators.
 ghost use mathlib.Core.List.{List};
-ghost use Rattle.text.specs.Written.{writtenText};
-ghost use Rattle.policy.specs.Policy.{Row};
-ghost use Rattle.policy.specs.Held.{heldRow, heldList};
-ghost use Rattle.policy.specs.Lying.{Lies, Lying};
+ghost use Rattle.chars.specs.Written.{writtenText};
+ghost use Rattle.syntax.specs.Policy.{Row};
+ghost use Rattle.held.specs.Held.{heldRow, heldList};
+ghost use Rattle.held.specs.Lying.{Lies, Lying};
 ghost use Rattle.writing.specs.Showing.{Adds};
 ghost use Rattle.writing.specs.Bytes.{name, operatorName, ending, turning, rowBytes, rowsFrom, conditionBytes};
 use crate::entries;
 use crate::sink;
-use policy::places;
-use policy::runs;
+use held::places;
+use held::runs;
 
 // The name of an operator, by its number.
 fn put_operator(out: &mut [u8], at: usize, operator: u32) -> usize

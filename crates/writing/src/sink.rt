@@ -1,9 +1,9 @@
 // A run of bytes that takes what is written as far as it goes, and says whether it was too much.
 ghost use mathlib.Core.List.{[], _∷_};
-ghost use Rattle.text.specs.Written.{written, writtenText};
+ghost use Rattle.chars.specs.Written.{written, writtenText};
 ghost use Rattle.writing.specs.Showing.{Adds};
 ghost use Rattle.writing.specs.Bytes.{between};
-use policy::limits;
+use held::limits;
 
 // The place of one who wrote more than a result may have.
 const OVER: usize = limits::RESULT + 1;
@@ -22,7 +22,7 @@ pub fn put(out: &mut [u8], at: usize, b: u8) -> usize
 pub fn put_char(out: &mut [u8], at: usize, c: u32) -> usize
     ensures { λ r. ⌜ Adds (written c) (now (out .entry)) at r (now (out .exit)) ⌝ }
 {
-    let next = text::written::put_char(out, at, c);
+    let next = chars::written::put_char(out, at, c);
     if next == at {
         return OVER;
     }

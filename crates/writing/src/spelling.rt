@@ -2,11 +2,11 @@
 ghost use mathlib.Core.Path.{_≡_};
 ghost use mathlib.Core.List.{map};
 ghost use Prim.Native.Nat.{_+_, _%_};
-ghost use Rattle.text.specs.Written.{writtenText};
+ghost use Rattle.chars.specs.Written.{writtenText};
 ghost use Rattle.writing.specs.WrittenForm.{bare, isEscaped, spelling, spelled, digitsUpTo};
 ghost use Rattle.writing.specs.Showing.{Adds};
 use crate::sink;
-use policy::forms;
+use syntax::forms;
 
 // A wildcard as * or ?, a character as itself.
 fn bare(y: u32) -> u32

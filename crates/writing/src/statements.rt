@@ -1,15 +1,15 @@
 // Statements of a held policy.
-ghost use Rattle.policy.specs.Policy.{Statement};
-ghost use Rattle.policy.specs.Held.{heldStatement};
-ghost use Rattle.policy.specs.Lying.{Lies, Lying};
-ghost use Rattle.policy.specs.Places.{Labelled, heldLabelled};
+ghost use Rattle.syntax.specs.Policy.{Statement};
+ghost use Rattle.held.specs.Held.{heldStatement};
+ghost use Rattle.held.specs.Lying.{Lies, Lying};
+ghost use Rattle.held.specs.Places.{Labelled, heldLabelled};
 ghost use Rattle.writing.specs.Showing.{Adds};
 ghost use Rattle.writing.specs.Bytes.{sidBytes, effectBytes, headBytes, statementBytes};
 use crate::entries;
 use crate::rows;
 use crate::sink;
-use policy::places;
-use policy::runs;
+use held::places;
+use held::runs;
 
 // The Sid of the statement at a place, if it has one.
 fn put_sid(run: &[u32], p: usize, out: &mut [u8], o: usize) -> usize

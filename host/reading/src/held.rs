@@ -1,5 +1,5 @@
 //! From the numbers of a held run back to a policy or a record, as
-//! crates/policy/specs/Held.antt lays them. Every number has to be used.
+//! crates/held/specs/Held.antt lays them. Every number has to be used.
 
 use second::layouts::*;
 use std::fmt;

@@ -8,7 +8,7 @@
 //! | 3 | a longer beginning and then `*` | the length without the star, the characters, zeros |
 //! | 4 | a number | two halves of 32 bits, zeros |
 //!
-//! The proved library has a number's upper half first (crates/refine,
+//! The proved library has a number's upper half first (crates/candidates,
 //! specs/Rows.antt), the second implementation its lower half.
 
 /// Numbers in a row.

@@ -8,10 +8,10 @@ use native.Mathlib.Omega.{arith}
 use lib.Dec.{leb}
 use lib.ListN.{getD}
 use borrow.Author.Tests.{le-leb, lt-leb}
-use Rattle.policy.specs.Held.{heldNumber}
-use Rattle.policy.specs.Lying.{Lies}
-use Rattle.policy.proofs.Laws.Runs.{lies-first}
-use Rattle.policy.proofs.Laws.Places.{half, parted, lower-half}
+use Rattle.held.specs.Held.{heldNumber}
+use Rattle.held.specs.Lying.{Lies}
+use Rattle.held.proofs.Laws.Runs.{lies-first}
+use Rattle.held.proofs.Laws.Places.{half, parted, lower-half}
 
 upper-less : (m n : ℕ) → m / half < n / half → m < n
 upper-less m n h = omega (arith, parted m, parted n)

@@ -3,11 +3,11 @@ use mathlib.Core.Path.{_≡_, refl, sym, ap, _∙_, subst}
 use mathlib.Core.Bool.{Bool, true, false}
 use mathlib.Core.List.{List, [], _∷_}
 use Prim.Native.Nat.{ℕ, _<_}
-use Rattle.text.specs.Base.{pick}
-use Rattle.policy.specs.Forms.{sameKey}
-use Rattle.policy.specs.Policy.{Context}
-use Rattle.policy.specs.Held.{heldContext}
-use Rattle.policy.specs.Lying.{Lies}
+use Rattle.chars.specs.Base.{pick}
+use Rattle.syntax.specs.Forms.{sameKey}
+use Rattle.syntax.specs.Policy.{Context}
+use Rattle.held.specs.Held.{heldContext}
+use Rattle.held.specs.Lying.{Lies}
 use Rattle.decision.specs.Decision.{Found, found, valueAt}
 use Rattle.decision.specs.Deciding.{Finds}
 

@@ -6,13 +6,13 @@ use Prim.Native.Nat.{ℕ, _≤_, _<_}
 use native.Mathlib.Omega.{arith}
 use lib.Dec.{leb, eqb}
 use lib.ListN.{getD}
-use Rattle.policy.specs.Forms.{same}
-use Rattle.policy.proofs.Laws.Parts.{is-number, is-text}
+use Rattle.syntax.specs.Forms.{same}
+use Rattle.held.proofs.Laws.Parts.{is-number, is-text}
 use Rattle.decision.specs.Matching.{matches}
-use Rattle.policy.specs.Policy.{Operator, StringEquals, StringLike, NumericLessThanEquals}
-use Rattle.policy.specs.Policy.{Value, text, number}
-use Rattle.policy.specs.Held.{heldText, heldNumber, heldValue, mark, operatorNumber, typeNumber}
-use Rattle.policy.specs.Lying.{Lies}
+use Rattle.syntax.specs.Policy.{Operator, StringEquals, StringLike, NumericLessThanEquals}
+use Rattle.syntax.specs.Policy.{Value, text, number}
+use Rattle.held.specs.Held.{heldText, heldNumber, heldValue, mark, operatorNumber, typeNumber}
+use Rattle.held.specs.Lying.{Lies}
 use Rattle.decision.specs.Decision.{typed, meets}
 
 -- ---- types

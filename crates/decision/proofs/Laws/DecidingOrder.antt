@@ -5,10 +5,10 @@ use mathlib.Core.List.{[], _∷_}
 use Prim.Native.Nat.{ℕ, zero, suc, _+_}
 use native.Mathlib.Numerals.{add-one}
 use native.Mathlib.Omega.{arith}
-use Rattle.text.specs.Base.{pick}
-use Rattle.policy.specs.Policy.{Effect, Allow, Deny, Statement, Policy, Request}
+use Rattle.chars.specs.Base.{pick}
+use Rattle.syntax.specs.Policy.{Effect, Allow, Deny, Statement, Policy, Request}
 use Rattle.decision.specs.Matching.{matches}
-use Rattle.policy.specs.Held.{effectNumber, anyOf}
+use Rattle.held.specs.Held.{effectNumber, anyOf}
 use Rattle.decision.specs.Decision.{Part, none, action, resource, row, partOf, isNone, sameEffect, firstOf}
 use Rattle.decision.specs.Decision.{byDeny}
 use Rattle.decision.specs.Decision.{decide}

@@ -6,18 +6,18 @@ use Prim.Native.Nat.{ℕ, suc, _+_, _<_}
 use native.Mathlib.Numerals.{add-one}
 use native.Mathlib.Omega.{arith}
 use lib.ListN.{length, getD}
-use Rattle.text.specs.Base.{pick}
-use Rattle.policy.specs.Policy.{Value, Row, Context}
-use Rattle.policy.specs.Held.{heldValue, heldContext}
-use Rattle.policy.specs.Held.{typeNumber, anyOf}
-use Rattle.policy.specs.Lying.{Lies, Lying}
-use Rattle.policy.proofs.Laws.Parts.{BehindLabel, value-lies}
+use Rattle.chars.specs.Base.{pick}
+use Rattle.syntax.specs.Policy.{Value, Row, Context}
+use Rattle.held.specs.Held.{heldValue, heldContext}
+use Rattle.held.specs.Held.{typeNumber, anyOf}
+use Rattle.held.specs.Lying.{Lies, Lying}
+use Rattle.held.proofs.Laws.Parts.{BehindLabel, value-lies}
 use Rattle.decision.specs.Decision.{Result, holds, fails, missing, no-entry, other-type, Found, nothing, found}
 use Rattle.decision.specs.Decision.{typed, meets, resultWith, rowResult, Part, behindRow, rowsFrom}
 use Rattle.decision.specs.Deciding.{FindsAt, Finds}
 use Rattle.decision.specs.Deciding.{resultNumber, failingOf}
 use Rattle.decision.specs.declared.deciding.Failing.the-variants as F
-use Rattle.policy.proofs.Laws.Runs.{lies-first, lies-inside}
+use Rattle.held.proofs.Laws.Runs.{lies-first, lies-inside}
 
 -- ---- what was found
 

@@ -1,10 +1,10 @@
 -- The first part of a statement that does not hold.
 use mathlib.Core.Path.{_≡_, refl, sym, ap, _∙_}
 use mathlib.Core.Bool.{Bool, true, false}
-use Rattle.text.specs.Base.{pick}
-use Rattle.policy.specs.Policy.{Statement, Request}
+use Rattle.chars.specs.Base.{pick}
+use Rattle.syntax.specs.Policy.{Statement, Request}
 use Rattle.decision.specs.Matching.{matches}
-use Rattle.policy.specs.Held.{anyOf}
+use Rattle.held.specs.Held.{anyOf}
 use Rattle.decision.specs.Decision.{Part, action, resource, rowsFrom, partOf}
 use Rattle.decision.specs.Deciding.{partBehind, failingOf}
 use Rattle.decision.specs.declared.deciding.Failing.the-variants as F

@@ -3,11 +3,11 @@ use mathlib.Core.Path.{_≡_, refl}
 use mathlib.Core.Bool.{Bool, true}
 use mathlib.Core.List.{List, [], _∷_}
 use Prim.Native.Nat.{ℕ}
-use Rattle.policy.specs.Policy.{star, Effect, Allow, Deny, Operator, StringEquals, StringLike}
-use Rattle.policy.specs.Policy.{NumericLessThanEquals, Value, text, number, Row, Statement, Policy, Request}
-use Rattle.policy.specs.Forms.{both, same, lower, sameKey}
+use Rattle.syntax.specs.Policy.{star, Effect, Allow, Deny, Operator, StringEquals, StringLike}
+use Rattle.syntax.specs.Policy.{NumericLessThanEquals, Value, text, number, Row, Statement, Policy, Request}
+use Rattle.syntax.specs.Forms.{both, same, lower, sameKey}
 use Rattle.decision.specs.Matching.{someEnding, first, matches}
-use Rattle.policy.specs.Held.{anyOf}
+use Rattle.held.specs.Held.{anyOf}
 use Rattle.decision.specs.Decision.{missing, other-type, no-entry, Part, none, action, resource, row}
 use Rattle.decision.specs.Decision.{valueAt, rowResult, rowsFrom, partOf, firstOf, decide}
 use Rattle.decision.specs.Deciding.{whyNumber}

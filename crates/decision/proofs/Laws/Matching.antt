@@ -9,12 +9,12 @@ use native.Mathlib.Omega.{arith}
 use lib.Dec.{eqb}
 use lib.ListN.{drop}
 use borrow.Author.Tests.{eqb-true, eq-eqb, ne-eqb}
-use Rattle.text.specs.Base.{pick}
-use Rattle.policy.specs.Policy.{star, any}
-use Rattle.policy.specs.Forms.{both, either}
+use Rattle.chars.specs.Base.{pick}
+use Rattle.syntax.specs.Policy.{star, any}
+use Rattle.syntax.specs.Forms.{both, either}
 use Rattle.decision.specs.Matching.{Matches, over, nothing, further, single, itself}
 use Rattle.decision.specs.Matching.{someEnding, stands, first, matches}
-use Rattle.policy.proofs.Laws.Slots.{true-false, both-true}
+use Rattle.parts.proofs.Laws.Slots.{true-false, both-true}
 
 -- ---- a first symbol
 

@@ -10,9 +10,9 @@ use native.Mathlib.Omega.{arith}
 use lib.ListN.{length, getD, drop, drop-of-length-le}
 use lib.Seq.{drop-drop}
 use Rattle.decision.specs.declared.matching.Place.{Place}
-use Rattle.policy.specs.Policy.{star}
+use Rattle.syntax.specs.Policy.{star}
 use Rattle.decision.specs.Matching.{Matches, over, stands, start, pastStar, pastBoth, again, Inside}
-use Rattle.policy.proofs.Laws.Forms.{drop-next}
+use Rattle.syntax.proofs.Laws.Forms.{drop-next}
 use Rattle.decision.proofs.Laws.Matching.{star-inv, star-takes, one-inv, one-takes, none-inv}
 
 -- the entry from place i on matches the text from place j on

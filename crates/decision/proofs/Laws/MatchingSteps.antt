@@ -8,13 +8,13 @@ use native.Mathlib.Omega.{arith}
 use lib.Dec.{eqb, ltb}
 use lib.ListN.{length, getD}
 use borrow.Author.Tests.{eqb-true, eqb-false, lt-ltb, le-ltb}
-use Rattle.text.specs.Base.{pick}
+use Rattle.chars.specs.Base.{pick}
 use Rattle.decision.specs.declared.matching.Place.{Place}
 use Rattle.decision.specs.declared.matching.Move.{Move}
 use Rattle.decision.specs.declared.matching.Move.the-variants.{Go, Stop}
-use Rattle.policy.specs.Policy.{star}
+use Rattle.syntax.specs.Policy.{star}
 use Rattle.decision.specs.Matching.{Matches, stands, matches, retry, atEnd, atSymbol, next}
-use Rattle.policy.proofs.Laws.Slots.{true-false}
+use Rattle.parts.proofs.Laws.Slots.{true-false}
 use Rattle.decision.proofs.Laws.Matching.{matches-complete, matches-not}
 use Rattle.decision.proofs.Laws.MatchingPlaces.{From, Tracks, left, tracks-star, left-star, tracks-both}
 use Rattle.decision.proofs.Laws.MatchingPlaces.{left-both}

@@ -3,9 +3,9 @@ use mathlib.Core.Path.{_≡_, refl}
 use mathlib.Core.Bool.{Bool, true, false}
 use mathlib.Core.List.{List, [], _∷_}
 use Prim.Native.Nat.{ℕ}
-use Rattle.text.specs.Base.{pick}
-use Rattle.policy.specs.Policy.{star, any}
-use Rattle.policy.specs.Forms.{both}
+use Rattle.chars.specs.Base.{pick}
+use Rattle.syntax.specs.Policy.{star, any}
+use Rattle.syntax.specs.Forms.{both}
 use Rattle.decision.specs.Matching.{someEnding, first, matches}
 
 data Trial : Type 0 where

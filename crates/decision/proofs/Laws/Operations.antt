@@ -4,10 +4,10 @@ use mathlib.Core.List.{List, _++_}
 use Prim.Native.Nat.{ℕ, _≤_}
 use native.Mathlib.Omega.{arith}
 use lib.ListN.{length, take, drop, take-append-drop}
-use Rattle.policy.specs.Policy.{Policy, Request}
+use Rattle.syntax.specs.Policy.{Policy, Request}
 use Rattle.decision.specs.Decision.{decide}
-use Rattle.policy.specs.Limits.{runNumbers}
-use Rattle.policy.specs.Lying.{Lies}
+use Rattle.syntax.specs.Limits.{runNumbers}
+use Rattle.held.specs.Lying.{Lies}
 use Rattle.policy.specs.Reading.{Outcome, refused, known, Rules, policyRules, recordRules, Says, Knows, Answers}
 use Rattle.decision.specs.Operations.{Decides, policy-refused, record-refused, decided, RecordDecides, refuses}
 use Rattle.decision.specs.Operations.{decides}

@@ -8,19 +8,19 @@ use native.Mathlib.Decide.{decLt}
 use lib.Dec.{ltb}
 use lib.ListN.{length, take, drop}
 use borrow.Author.Tests.{le-ltb, ltb-false}
-use Rattle.text.specs.Base.{pick}
-use Rattle.text.specs.Putting.{lay}
-use Rattle.policy.specs.Limits.{mostStatements, mostEntries, policyBytes, resultBytes}
-use Rattle.policy.specs.Policy.{Effect, Allow, Deny, Statement, Policy}
-use Rattle.policy.specs.Forms.{both, either}
-use Rattle.policy.specs.Members.{hasLike, differ}
-use Rattle.policy.specs.PolicyLayout.{sameSid}
-use Rattle.policy.specs.Held.{anyOf, statementOver, totalOf, statementEntries, entries, overLimit}
+use Rattle.chars.specs.Base.{pick}
+use Rattle.chars.specs.Putting.{lay}
+use Rattle.syntax.specs.Limits.{mostStatements, mostEntries, policyBytes, resultBytes}
+use Rattle.syntax.specs.Policy.{Effect, Allow, Deny, Statement, Policy}
+use Rattle.syntax.specs.Forms.{both, either}
+use Rattle.syntax.specs.Members.{hasLike, differ}
+use Rattle.syntax.specs.PolicyLayout.{sameSid}
+use Rattle.held.specs.Held.{anyOf, statementOver, totalOf, statementEntries, entries, overLimit}
 use Rattle.policy.specs.Reading.{Outcome, refused, known, policyComes, policyRules, Says}
 use Rattle.policy.specs.declared.refusals.Refusal.{Refusal}
 use Rattle.policy.specs.declared.refusals.Refusal.the-variants.{PolicyLimit}
 use Rattle.policy.proofs.Laws.Reading.{outcome, byVerdict, says-some, says-unique}
-use Rattle.policy.proofs.Laws.Slots.{both-true}
+use Rattle.parts.proofs.Laws.Slots.{both-true}
 use Rattle.decision.specs.Decision.{sameEffect}
 use Rattle.writing.specs.Valid as Each
 use Rattle.writing.specs.Valid.{Each, Some, ValidStatement, Valid}
@@ -29,8 +29,8 @@ use Rattle.writing.specs.Operations.{handed}
 use Rattle.writing.proofs.Laws.Handing.{handed-long, handed-short, handed-whole}
 use Rattle.writing.proofs.Laws.Operations.{read-limits, read-valid}
 use Rattle.writing.proofs.Laws.Tree.{written-whole, written-policy}
-use Rattle.refine.specs.Rooms.{statementSlots, slots, fits}
-use Rattle.refine.specs.Finishing.{behind, isWhole, keptStatement, leftBy, refinedPolicy, hasAllow}
+use Rattle.rooms.specs.Rooms.{statementSlots, slots, fits}
+use Rattle.refined.specs.Finishing.{behind, isWhole, keptStatement, leftBy, refinedPolicy, hasAllow}
 use Rattle.refine.specs.Operations.{holdsFor}
 use Rattle.refine.specs.Operations as O
 use Rattle.demands.specs.Logs.{Bytes}

@@ -3,10 +3,10 @@ use mathlib.Core.Path.{_≡_, refl, sym, ap, _∙_}
 use mathlib.Core.Bool.{Bool, true, false}
 use mathlib.Core.List.{List, [], _∷_}
 use Prim.Native.Nat.{ℕ, zero, suc}
-use Rattle.text.specs.Base.{pick}
-use Rattle.policy.specs.Policy.{Effect, Allow, Deny, Value, Row, Statement, Policy, Context, Request}
-use Rattle.policy.specs.Forms.{both, either}
-use Rattle.policy.specs.Held.{anyOf}
+use Rattle.chars.specs.Base.{pick}
+use Rattle.syntax.specs.Policy.{Effect, Allow, Deny, Value, Row, Statement, Policy, Context, Request}
+use Rattle.syntax.specs.Forms.{both, either}
+use Rattle.held.specs.Held.{anyOf}
 use Rattle.decision.specs.Matching.{matches}
 use Rattle.decision.specs.Decision.{typed, meets, Found, nothing, found, valueAt, Result, holds, fails, resultWith}
 use Rattle.decision.specs.Decision.{other-type, no-entry, action, resource}

@@ -9,18 +9,18 @@ use Prim.Native.Nat.{ℕ, zero, suc, _+_, _*_}
 use native.Mathlib.Omega.{arith}
 use lib.ListN.{length, take, drop}
 use lib.Seq.{drop-drop}
-use Rattle.text.specs.Base.{pick}
-use Rattle.policy.specs.Policy.{Allow, Value}
-use Rattle.policy.specs.Forms.{either}
-use Rattle.policy.specs.Held.{anyOf}
+use Rattle.chars.specs.Base.{pick}
+use Rattle.syntax.specs.Policy.{Allow, Value}
+use Rattle.syntax.specs.Forms.{either}
+use Rattle.held.specs.Held.{anyOf}
 use Rattle.decision.specs.Decision.{Found, nothing, found}
-use Rattle.refine.specs.Candidates.{Candidate, Content, empty, holds, Kind, Covers, Holds}
-use Rattle.refine.specs.Candidates as C
-use Rattle.refine.specs.Entries.{Place, meetsAt, refined, kindOf}
-use Rattle.refine.specs.Rows.{rowNumbers, contentOf}
-use Rattle.refine.specs.Rooms.{Slot, slotKind, slotsAt, hit, hits}
-use Rattle.refine.specs.Finishing.{keptBy, kept, behind}
-use Rattle.refine.proofs.Laws.Refined.{refines}
+use Rattle.candidates.specs.Candidates.{Candidate, Content, empty, holds, Kind, Covers, Holds}
+use Rattle.candidates.specs.Candidates as C
+use Rattle.candidates.specs.Entries.{Place, meetsAt, refined, kindOf}
+use Rattle.candidates.specs.Rows.{rowNumbers, contentOf}
+use Rattle.rooms.specs.Rooms.{Slot, slotKind, slotsAt, hit, hits}
+use Rattle.refined.specs.Finishing.{keptBy, kept, behind}
+use Rattle.candidates.proofs.Laws.Refined.{refines}
 use Rattle.demands.specs.Charges.{foundAt}
 use Rattle.demands.proofs.Laws.Rooms.{Charging, RowsHold}
 use Rattle.demands.proofs.Laws.Narrowing.{any, either-right}

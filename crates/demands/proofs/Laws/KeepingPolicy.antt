@@ -6,22 +6,22 @@ use Prim.Native.Nat.{ℕ, _+_, _*_}
 use native.Mathlib.Omega.{arith}
 use lib.ListN.{length, take, drop, length-append}
 use lib.Seq.{drop-drop}
-use Rattle.text.specs.Base.{pick}
-use Rattle.policy.specs.Policy.{Effect, Allow, Deny, Value, text, Row, Statement, Policy, Context, Request}
-use Rattle.policy.specs.Forms.{both, either}
-use Rattle.policy.specs.Held.{anyOf}
+use Rattle.chars.specs.Base.{pick}
+use Rattle.syntax.specs.Policy.{Effect, Allow, Deny, Value, text, Row, Statement, Policy, Context, Request}
+use Rattle.syntax.specs.Forms.{both, either}
+use Rattle.held.specs.Held.{anyOf}
 use Rattle.policy.specs.Reading.{known, policyRules, recordRules, Says}
-use Rattle.policy.proofs.Laws.Slots.{both-true}
+use Rattle.parts.proofs.Laws.Slots.{both-true}
 use Rattle.decision.specs.Matching.{matches}
 use Rattle.decision.specs.Decision.{typed, meets, Found, nothing, found, valueAt, sameEffect, isNone, partOf, decide}
 use Rattle.decision.specs.declared.deciding.Decision.{Decision}
 use Rattle.decision.specs.declared.deciding.Decision.the-variants.{Denied, Allowed, Implicit}
-use Rattle.refine.specs.Entries.{Place, inAction, inResource, inRow, meetsAt, wildKind, kindOf}
-use Rattle.refine.specs.Rows.{rowNumbers}
-use Rattle.refine.specs.Rooms.{Slot, slotsAt, rowSlots, statementSlots, slots, fits, hits, rowHits, statementHits, none}
-use Rattle.refine.specs.Rooms.{isCharged, statementCharges, allowedCharges, byDecision, charges}
-use Rattle.refine.specs.Finishing.{kept, behind, textOf, keptTexts, keptRows, hasSome, allSome, isWhole, keptStatement}
-use Rattle.refine.specs.Finishing.{leftBy, refinedPolicy}
+use Rattle.candidates.specs.Entries.{Place, inAction, inResource, inRow, meetsAt, wildKind, kindOf}
+use Rattle.candidates.specs.Rows.{rowNumbers}
+use Rattle.rooms.specs.Rooms.{Slot, slotsAt, rowSlots, statementSlots, slots, fits, hits, rowHits, statementHits, none}
+use Rattle.rooms.specs.Rooms.{isCharged, statementCharges, allowedCharges, byDecision, charges}
+use Rattle.refined.specs.Finishing.{kept, behind, textOf, keptTexts, keptRows, hasSome, allSome, isWhole, keptStatement}
+use Rattle.refined.specs.Finishing.{leftBy, refinedPolicy}
 use Rattle.demands.specs.Logs.{Bytes, Comes}
 use Rattle.demands.specs.Charges.{foundAt, Charged}
 use Rattle.demands.specs.Narrowing.{isAllowed}

@@ -4,11 +4,11 @@ use mathlib.Core.Bool.{true}
 use mathlib.Core.List.{List}
 use Prim.Native.Nat.{ℕ}
 use native.Mathlib.Omega.{arith}
-use Rattle.policy.specs.Policy.{Value}
-use Rattle.refine.specs.Candidates.{Candidate, Content, empty, holds, Kind, Lawful, Covers, Under, Holds}
-use Rattle.refine.specs.Candidates as C
-use Rattle.refine.specs.Rooms.{slotKind}
-use Rattle.refine.proofs.Laws.Entries.{lawful}
+use Rattle.syntax.specs.Policy.{Value}
+use Rattle.candidates.specs.Candidates.{Candidate, Content, empty, holds, Kind, Lawful, Covers, Under, Holds}
+use Rattle.candidates.specs.Candidates as C
+use Rattle.rooms.specs.Rooms.{slotKind}
+use Rattle.candidates.proofs.Laws.Entries.{lawful}
 use Rattle.demands.specs.Charges.{Charged, HeldLeast, NoNarrower}
 use Rattle.demands.proofs.Laws.Rooms.{rows-at}
 use Rattle.demands.proofs.Laws.Logs.{comes-holds}

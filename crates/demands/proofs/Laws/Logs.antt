@@ -10,21 +10,20 @@ use native.Mathlib.Omega.{arith}
 use lib.Dec.{eqb}
 use lib.ListN.{length, replicate, length-replicate}
 use borrow.Author.Tests.{eq-eqb}
-use Rattle.policy.specs.Policy.{Value, Policy, Request}
+use Rattle.syntax.specs.Policy.{Value, Policy, Request}
 use Rattle.policy.specs.Reading.{Outcome, refused, known, Rules, policyRules, recordRules, Says}
 use Rattle.policy.specs.declared.refusals.Refusal.{Refusal}
 use Rattle.policy.proofs.Laws.Reading.{outcome, says-some, says-unique}
 use Rattle.decision.specs.Decision.{Found, nothing, found, decide}
 use Rattle.decision.specs.declared.deciding.Decision.{Decision}
 use Rattle.decision.specs.declared.deciding.Decision.the-variants.{Denied, Allowed, Implicit}
-use Rattle.refine.specs.Candidates.{Alike}
-use Rattle.refine.specs.Rows.{rowNumbers}
-use Rattle.refine.specs.Rooms.{slots, none, byDecision, charges, fed, met}
-use Rattle.refine.specs.Walking.{Right}
+use Rattle.candidates.specs.Candidates.{Alike}
+use Rattle.candidates.specs.Rows.{rowNumbers}
+use Rattle.rooms.specs.Rooms.{slots, charges, fed, met}
+use Rattle.rooms.specs.Walking.{Right}
 use Rattle.refine.specs.Operations.{roomNumbers, isRoom, holdsFor, Feeds, Joins, Finishes}
 use Rattle.refine.specs.Operations as O
-use Rattle.refine.proofs.Laws.Charged.{none-right, charges-right}
-use Rattle.refine.proofs.Laws.Held.{sound-read, short-read, rows-enough, room-size}
+use Rattle.refine.proofs.Laws.Held.{sound-read, rows-enough, room-size, right-charges}
 use Rattle.refine.proofs.Laws.Operations.{finishes-unique}
 use Rattle.demands.specs.Logs.{Bytes, emptyRoom, Walks, walked, Comes, SameRecords, SameRoom, SameResult}
 use Rattle.demands.specs.Logs as L
@@ -88,15 +87,6 @@ module _ {policy : Bytes} {p : Policy} (known-p : Says policyRules policy (known
   abbrev After : Charging → List Bytes → Charging
   After S log k v = S k v ⊎ Charged p log k v
 
-  right-by : {asked : Bytes} (q : Request) (d : Decision) → Says recordRules asked (known q) → Right (slots p) (byDecision d p q)
-  right-by q (Allowed n) b = charges-right q (short-read b) p
-  right-by q (Denied n) b = none-right (slots p)
-  right-by q Implicit b = none-right (slots p)
-
-  right-charges : {asked : Bytes} (q : Request) → Says recordRules asked (known q) → Right (slots p) (charges p q)
-  unfolding charges
-  right-charges q b = right-by q (decide p q) b
-
   only-one : {r asked : Bytes} → List·Memᴰ r (asked ∷ []) → r ≡ asked
   only-one (List·Memᴰ·head e) = e
   only-one (List·Memᴰ·tail m) = elim m [ ]
@@ -132,7 +122,7 @@ module _ {policy : Bytes} {p : Policy} (known-p : Says policyRules policy (known
   room-fed : (S : Charging) {asked : Bytes} {q : Request} (room : List ℕ) → Says recordRules asked (known q)
       → RoomHolds S room → RoomHolds (After S (asked ∷ [])) (fed (slots p) (charges p q) room)
   room-fed S {asked} {q} room b w =
-      let r = right-charges q b in
+      let r = right-charges p q b in
       room-alike (fed-alike S b)
       (record {
         size = ap (λ (n : ℕ). eqb n roomNumbers) (fed-length (slots p) (charges p q) S room r (w .rows)) ∙ w .size;

@@ -6,24 +6,24 @@ use Prim.Native.Nat.{ℕ, _+_, _*_}
 use native.Mathlib.Omega.{arith}
 use lib.ListN.{length, take, drop, length-append}
 use lib.Seq.{drop-drop}
-use Rattle.text.specs.Base.{pick}
-use Rattle.policy.specs.Policy.{Effect, Allow, Deny, Value, text, number, Row, Statement, Policy, Context, Request}
-use Rattle.policy.specs.Forms.{both, either}
-use Rattle.policy.specs.Held.{anyOf}
-use Rattle.policy.proofs.Laws.Slots.{both-true}
+use Rattle.chars.specs.Base.{pick}
+use Rattle.syntax.specs.Policy.{Effect, Allow, Deny, Value, text, number, Row, Statement, Policy, Context, Request}
+use Rattle.syntax.specs.Forms.{both, either}
+use Rattle.held.specs.Held.{anyOf}
+use Rattle.parts.proofs.Laws.Slots.{both-true}
 use Rattle.decision.specs.Matching.{matches}
 use Rattle.decision.specs.Decision.{typed, meets, Found, nothing, found, valueAt, sameEffect, decide}
-use Rattle.refine.specs.Candidates.{Candidate, itself, single, under, upTo, Content, empty, holds, Kind, isContent, Covers}
-use Rattle.refine.specs.Entries.{Place, inAction, inResource, inRow, meetsAt, refined, wildKind, kindOf}
-use Rattle.refine.specs.Rows.{rowNumbers, contentOf, isRow}
-use Rattle.refine.specs.Rooms.{Slot, slotsAt, rowSlots, statementSlots, slots, rowFits, fits}
-use Rattle.refine.specs.Finishing.{keptBy, kept, behind, textOf, keptTexts, keptRows, isWhole, keptStatement, leftBy}
-use Rattle.refine.specs.Finishing.{refinedPolicy}
+use Rattle.candidates.specs.Candidates.{Candidate, itself, single, under, upTo, Content, empty, holds, Kind, isContent, Covers}
+use Rattle.candidates.specs.Entries.{Place, inAction, inResource, inRow, meetsAt, refined, wildKind, kindOf}
+use Rattle.candidates.specs.Rows.{rowNumbers, contentOf, isRow}
+use Rattle.rooms.specs.Rooms.{Slot, slotsAt, rowSlots, statementSlots, slots, rowFits, fits}
+use Rattle.refined.specs.Finishing.{keptBy, kept, behind, textOf, keptTexts, keptRows, isWhole, keptStatement, leftBy}
+use Rattle.refined.specs.Finishing.{refinedPolicy}
 use Rattle.refine.specs.Operations.{holdsFor}
-use Rattle.refine.proofs.Laws.Entries.{lawful, whole-meets}
-use Rattle.refine.proofs.Laws.FittingWild.{number-not}
-use Rattle.refine.proofs.Laws.Handling.{made}
-use Rattle.refine.proofs.Laws.Refined.{refines}
+use Rattle.candidates.proofs.Laws.Entries.{lawful, whole-meets}
+use Rattle.candidates.proofs.Laws.FittingWild.{number-not}
+use Rattle.rooms.proofs.Laws.Handling.{made}
+use Rattle.candidates.proofs.Laws.Refined.{refines}
 use Rattle.demands.specs.Narrowing.{isAllowed, Narrows}
 use Rattle.demands.proofs.Laws.Narrowing.{false-true, either-right, either-to, both-to, listFits, kept-narrows}
 use Rattle.demands.proofs.Laws.Narrowing.{texts-narrow}

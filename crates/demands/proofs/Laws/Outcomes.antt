@@ -4,8 +4,8 @@ use mathlib.Core.Bool.{Bool, true, false}
 use mathlib.Core.List.{List, []}
 use Prim.Native.Nat.{ℕ}
 use native.Mathlib.Omega.{arith}
-use Rattle.text.specs.Base.{pick}
-use Rattle.policy.specs.Policy.{Policy, Request}
+use Rattle.chars.specs.Base.{pick}
+use Rattle.syntax.specs.Policy.{Policy, Request}
 use Rattle.policy.specs.Reading.{Outcome, refused, known, policyRules, recordRules, Says}
 use Rattle.policy.specs.declared.refusals.Refusal.{Refusal}
 use Rattle.policy.specs.declared.refusals.Refusal.the-variants.{RoomLength}

@@ -10,19 +10,19 @@ use native.Mathlib.Omega.{arith}
 use lib.ListN.{length, getD, take, drop, replicate, length-append, length-drop, length-take, take-append-drop}
 use lib.Seq.{take-at, drop-at, drop-drop}
 use borrow.Author.Tests.{eq-eqb}
-use native.Mathlib.Nat.{zero-add, suc-add}
-use Rattle.text.specs.Base.{pick}
-use Rattle.policy.specs.Policy.{Value}
-use Rattle.policy.specs.Forms.{both}
+use Rattle.chars.specs.Base.{pick}
+use Rattle.syntax.specs.Policy.{Value}
+use Rattle.syntax.specs.Forms.{both}
 use Rattle.decision.specs.Decision.{Found, nothing, found}
-use Rattle.refine.specs.Candidates.{Alike}
-use Rattle.refine.specs.Candidates as C
-use Rattle.refine.specs.Rows.{rowNumbers, padded, row, isZero}
-use Rattle.refine.specs.Rooms.{Slot, rowFits, fits, rowFed, fed, rowMet, met}
-use Rattle.refine.specs.Walking.{RightAt, Right, all-right, one-right}
+use Rattle.candidates.specs.Candidates.{Alike}
+use Rattle.candidates.specs.Candidates as C
+use Rattle.candidates.specs.Rows.{rowNumbers, padded, row, isZero}
+use Rattle.rooms.specs.Rooms.{Slot, rowFits, fits, rowFed, fed, rowMet, met}
+use Rattle.rooms.specs.Walking.{RightAt, Right, all-right, one-right}
 use Rattle.demands.specs.Charges.{foundAt, rowAt, At, here, there}
 use Rattle.demands.proofs.Laws.Rows.{RowHolds, empty-holds, And, row-fed, row-met, row-same, row-alike}
-use Rattle.refine.proofs.Laws.HandlingRows.{zero-first}
+use Rattle.rooms.proofs.Laws.HandlingRows.{zero-first}
+use Rattle.rooms.proofs.Laws.Empty.{zeros, zeros-zero, zeros-parted, empty-row}
 
 -- the values charged to each slot, by its number
 abbrev pub Charging : Type 1
@@ -76,9 +76,6 @@ rows-met (s ∷ ss) S R xs ys h g =
 
 -- ---- zeros
 
-abbrev zeros : ℕ → List ℕ
-zeros n = replicate n 0
-
 zero-head : (x : ℕ) (xs : List ℕ) → isZero (x ∷ xs) ≡ true → x ≡ 0
 zero-head x xs e = zero-first (x ∷ xs) e
 
@@ -92,27 +89,11 @@ zero-is [] e = refl
 zero-is (x ∷ xs) e =
     ap (λ (y : ℕ). y ∷ xs) (zero-head x xs e) ∙ ap (λ (l : List ℕ). 0 ∷ l) (zero-is xs (zero-tail x xs e))
 
-zeros-zero : (n : ℕ) → isZero (zeros n) ≡ true
-unfolding isZero
-zeros-zero zero = refl
-zeros-zero (suc n) = zeros-zero n
-
-zeros-add : (n m : ℕ) → zeros (n + m) ≡ zeros n ++ zeros m
-zeros-add zero m = ap zeros (zero-add m)
-zeros-add (suc n) m = ap zeros (suc-add n m) ∙ ap (λ (l : List ℕ). 0 ∷ l) (zeros-add n m)
-
-empty-row : row C.empty ≡ zeros rowNumbers
-unfolding row padded
-empty-row = refl
-
 pub rows-empty : (ss : List Slot) (n : ℕ) → rowNumbers * length ss ≤ n → RowsHold ss (λ k v. ⊥) (zeros n)
 unfolding RowsHold
 rows-empty [] n h = zeros-zero n
 rows-empty (s ∷ ss) n h =
-    let e : rowNumbers + (n - rowNumbers) ≡ n = omega (arith, h) in
-    let p : zeros n ≡ zeros rowNumbers ++ zeros (n - rowNumbers)
-    = ap zeros (sym e) ∙ zeros-add rowNumbers (n - rowNumbers) in
-    subst (RowsHold (s ∷ ss) (λ k v. ⊥)) (sym p)
+    subst (RowsHold (s ∷ ss) (λ k v. ⊥)) (sym (zeros-parted n (omega (arith, h))))
     (before-others s ss (λ k v. ⊥) (zeros rowNumbers) (zeros (n - rowNumbers))
     (empty-holds s (λ v. ⊥) (zeros rowNumbers) (λ v x. x) (sym empty-row))
     (rows-empty ss (n - rowNumbers) (omega (arith, h))))

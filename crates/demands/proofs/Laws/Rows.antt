@@ -12,64 +12,40 @@ use native.Mathlib.Omega.{arith}
 use lib.Dec.{leb}
 use lib.ListN.{length, getD, take, drop, replicate, length-append, length-drop, take-append-drop}
 use lib.Seq.{take-at, drop-at, length-take-le}
-use Rattle.text.specs.Base.{pick}
-use Rattle.policy.specs.Policy.{Effect, Allow, Deny, Value, text, number}
-use Rattle.policy.specs.Forms.{both, same}
-use Rattle.policy.proofs.Laws.Same.{same-complete}
-use Rattle.policy.proofs.Laws.Slots.{both-true}
+use Rattle.chars.specs.Base.{pick}
+use Rattle.syntax.specs.Policy.{Effect, Allow, Deny, Value, text, number}
+use Rattle.syntax.specs.Forms.{both, same}
+use Rattle.syntax.proofs.Laws.Same.{same-complete}
+use Rattle.parts.proofs.Laws.Slots.{both-true}
 use Rattle.decision.specs.Decision.{sameEffect, Found, nothing, found}
-use Rattle.refine.specs.Candidates.{Candidate, itself, single, under, upTo, Content, empty, holds, Kind, Lawful}
-use Rattle.refine.specs.Candidates.{isContent, joined, charged, Covers, Holds, Alike}
-use Rattle.refine.specs.Candidates as C
-use Rattle.refine.specs.Beginnings.{shared, longestUpTo, longest}
-use Rattle.refine.specs.Kinds.{only, never, bounds, textOf, oneText}
-use Rattle.refine.specs.Entries.{Place, before, legalBeginning, wildKind, meetsAt}
-use Rattle.refine.specs.Rows.{rowNumbers, textCharacters, padded, row, contentOf, isRow, isZero}
-use Rattle.refine.specs.Joining.{Textual, no-text, whole-text, one-text, begun-text, Numeric, no-number, one-number}
-use Rattle.refine.specs.Rooms.{Slot, slotKind, rowFits, fits, rowFed, fed, rowMet, met}
-use Rattle.refine.specs.Walking.{Chargeable, RightAt, Right, all-right, one-right}
-use Rattle.refine.proofs.Laws.Contents.{holds-alike, holds-content, holds-unique, joined-holds}
-use Rattle.refine.proofs.Laws.Encoding.{Sized, no-row, whole-row, text-row, begun-row, number-row, content-row}
-use Rattle.refine.proofs.Laws.Entries.{lawful, whole-meets}
-use Rattle.refine.proofs.Laws.Bounding.{counted, counted-size}
-use Rattle.refine.proofs.Laws.Joining.{standing}
-use Rattle.refine.proofs.Laws.Handling.{Handled, denied, alone, wild, bound, handles, few}
-use Rattle.refine.proofs.Laws.Handling.{Mark, no-mark, a-mark, mark-only}
-use Rattle.refine.proofs.Laws.HandlingRows.{kind-row, number-of, text-of, content-none, zero-first}
-use Rattle.refine.proofs.Laws.Lengths.{charged-size, joined-textual}
+use Rattle.candidates.specs.Candidates.{Candidate, itself, single, under, upTo, Content, empty, holds, Kind, Lawful}
+use Rattle.candidates.specs.Candidates.{isContent, joined, charged, Covers, Holds, Alike}
+use Rattle.candidates.specs.Candidates as C
+use Rattle.candidates.specs.Beginnings.{shared, longestUpTo, longest}
+use Rattle.candidates.specs.Kinds.{only, never, bounds, textOf, oneText}
+use Rattle.candidates.specs.Entries.{Place, before, legalBeginning, wildKind, meetsAt}
+use Rattle.candidates.specs.Rows.{rowNumbers, textCharacters, padded, row, contentOf, isRow, isZero}
+use Rattle.candidates.specs.Joining.{Textual, no-text, whole-text, one-text, begun-text, Numeric, no-number, one-number}
+use Rattle.rooms.specs.Rooms.{Slot, slotKind, rowFits, fits, rowFed, fed, rowMet, met}
+use Rattle.rooms.specs.Walking.{Chargeable, RightAt, Right, all-right, one-right}
+use Rattle.candidates.proofs.Laws.Contents.{holds-alike, holds-content, holds-unique, joined-holds}
+use Rattle.candidates.proofs.Laws.Entries.{lawful, whole-meets}
+use Rattle.candidates.proofs.Laws.Bounding.{counted, counted-size}
+use Rattle.candidates.proofs.Laws.Joining.{standing}
+use Rattle.rooms.proofs.Laws.Handling.{Handled, denied, alone, wild, bound, handles, few}
+use Rattle.rooms.proofs.Laws.Handling.{Mark, no-mark, a-mark, mark-only}
+use Rattle.rooms.proofs.Laws.HandlingRows.{kind-row, number-of, text-of, content-none, zero-first}
+use Rattle.rooms.proofs.Laws.Lengths.{charged-size, joined-textual}
+use Rattle.rooms.proofs.Laws.Fed.{kind-lawful, row-of, made-fits}
+use Rattle.rooms.proofs.Laws.Empty.{empty-size, empty-fits}
 
 -- ---- one row
-
-kind-lawful : (s : Slot) → Lawful (slotKind s)
-kind-lawful s = lawful (s .place) (s .entry)
 
 pub record RowHolds (s : Slot) (S : Value → Type 0) (xs : List ℕ) : Type 0 where
   pub size : length xs ≡ rowNumbers
   pub is : xs ≡ row (contentOf xs)
   pub right : Holds (slotKind s) S (contentOf xs)
   pub fits-it : rowFits s xs ≡ true
-
--- a content whose row has a row's size
-sized : (c : Content) → length (row c) ≡ rowNumbers → Sized c
-unfolding row
-sized empty e = no-row
-sized (holds itself) e = whole-row
-sized (holds (single t)) e = text-row {t = t} (omega (arith, few (2 ∷ length t ∷ t) e))
-sized (holds (under q)) e = begun-row {q = q} (omega (arith, few (3 ∷ length q ∷ q) e))
-sized (holds (upTo n)) e = number-row
-
--- the row of such a content holds it
-row-of : (c : Content) → length (row c) ≡ rowNumbers → contentOf (row c) ≡ c
-row-of c e = content-row c (sized c e)
-
--- a row made of a right content fits
-made-fits : (s : Slot) (c : Content) → s .effect ≡ Allow → isContent (slotKind s) c ≡ true
-    → length (row c) ≡ rowNumbers → rowFits s (row c) ≡ true
-unfolding isRow
-made-fits s c a i e =
-    ap (λ (f : Effect). pick (sameEffect f Allow) (isRow (slotKind s) (row c)) (isZero (row c))) a
-    ∙ ap (λ (d : Content). both (isContent (slotKind s) d) (same (row d) (row c))) (row-of c e)
-    ∙ ap (λ (b : Bool). both b (same (row c) (row c))) i ∙ same-complete refl
 
 made-holds : (s : Slot) (S : Value → Type 0) (c : Content) → s .effect ≡ Allow → Holds (slotKind s) S c
     → length (row c) ≡ rowNumbers → RowHolds s S (row c)
@@ -89,22 +65,6 @@ first-zero xs e = ap (λ (l : List ℕ). getD l 0 0) e
 
 empty-content : (xs : List ℕ) → xs ≡ row empty → contentOf xs ≡ empty
 empty-content xs e = content-none xs (first-zero xs e)
-
-empty-size : length (row empty) ≡ rowNumbers
-unfolding row padded
-empty-size = refl
-
-empty-zero : isZero (row empty) ≡ true
-unfolding row padded isZero
-empty-zero = refl
-
-empty-fits : (s : Slot) → rowFits s (row empty) ≡ true
-empty-fits s = by (s .effect) refl
-  where
-    by : (e : Effect) → s .effect ≡ e → rowFits s (row empty) ≡ true
-    by Allow e = made-fits s empty e refl empty-size
-    by Deny e =
-        ap (λ (f : Effect). pick (sameEffect f Allow) (isRow (slotKind s) (row empty)) (isZero (row empty))) e ∙ empty-zero
 
 pub empty-holds : (s : Slot) (S : Value → Type 0) (xs : List ℕ) → ((v : Value) → S v → ⊥) → xs ≡ row empty
     → RowHolds s S xs

@@ -6,23 +6,23 @@ use Prim.Native.Nat.{ℕ, _+_, _*_, _≤_}
 use native.Mathlib.Omega.{arith}
 use lib.Dec.{ltb}
 use lib.ListN.{length, take, drop}
-use Rattle.text.specs.Base.{pick}
-use Rattle.policy.specs.Limits.{keyCharacters, mostRows}
-use Rattle.policy.specs.Policy.{Allow, Operator, Value, text, number, Row}
-use Rattle.policy.specs.Forms.{both, either, sameKey}
-use Rattle.policy.specs.Members.{hasLike, differ}
-use Rattle.policy.specs.PolicyLayout.{Group, sameRow, sameOperator, sameGroup}
-use Rattle.policy.specs.Held.{anyOf, longText, longValue, rowOver, rowsOver, rowEntries, totalOf}
-use Rattle.policy.proofs.Laws.Slots.{both-true}
+use Rattle.chars.specs.Base.{pick}
+use Rattle.syntax.specs.Limits.{keyCharacters, mostRows}
+use Rattle.syntax.specs.Policy.{Allow, Operator, Value, text, number, Row}
+use Rattle.syntax.specs.Forms.{both, either, sameKey}
+use Rattle.syntax.specs.Members.{hasLike, differ}
+use Rattle.syntax.specs.PolicyLayout.{Group, sameRow, sameOperator, sameGroup}
+use Rattle.held.specs.Held.{anyOf, longText, longValue, rowOver, rowsOver, rowEntries, totalOf}
+use Rattle.parts.proofs.Laws.Slots.{both-true}
 use Rattle.writing.specs.WrittenForm.{joining, grouped}
 use Rattle.writing.specs.Valid as Each
 use Rattle.writing.specs.Valid.{Each, Some, ValidAction, ValidResource, ValidValue, ValidRow, ValidRows}
-use Rattle.refine.specs.Candidates.{Candidate, Content, empty, holds}
-use Rattle.refine.specs.Entries.{Place, inAction, inResource, inRow, refined, kindOf}
-use Rattle.refine.specs.Rows.{rowNumbers, contentOf, isRow}
-use Rattle.refine.specs.Rooms.{Slot, slotsAt, rowSlots, fits}
-use Rattle.refine.specs.Finishing.{keptBy, kept, behind, textOf, keptTexts, keptRows, hasSome, allSome}
-use Rattle.refine.proofs.Laws.Refined.{ValidAt, refines}
+use Rattle.candidates.specs.Candidates.{Candidate, Content, empty, holds}
+use Rattle.candidates.specs.Entries.{Place, inAction, inResource, inRow, refined, kindOf}
+use Rattle.candidates.specs.Rows.{rowNumbers, contentOf, isRow}
+use Rattle.rooms.specs.Rooms.{Slot, slotsAt, rowSlots, fits}
+use Rattle.refined.specs.Finishing.{keptBy, kept, behind, textOf, keptTexts, keptRows, hasSome, allSome}
+use Rattle.candidates.proofs.Laws.Refined.{ValidAt, refines}
 use Rattle.demands.proofs.Laws.Narrowing.{false-true, listFits, candidate}
 use Rattle.demands.proofs.Laws.NarrowingPolicy.{fits-list}
 

@@ -7,24 +7,24 @@ use native.Mathlib.Omega.{arith}
 use lib.Dec.{ltb}
 use lib.ListN.{length, take, drop}
 use borrow.Author.Tests.{le-ltb, ltb-false}
-use Rattle.text.specs.Base.{pick}
-use Rattle.policy.specs.Limits.{mostStatements, mostEntries, mostRows, keyCharacters}
-use Rattle.policy.specs.Policy.{Effect, Allow, Deny, Operator, Value, text, number, Row, Statement, Policy}
-use Rattle.policy.specs.Forms.{both, either}
-use Rattle.policy.specs.Members.{hasLike, differ}
-use Rattle.policy.specs.PolicyLayout.{sameSid}
-use Rattle.policy.specs.Held.{anyOf, longText, longValue, rowOver, rowsOver, statementOver, totalOf, rowEntries}
-use Rattle.policy.specs.Held.{statementEntries, entries, overLimit}
-use Rattle.policy.proofs.Laws.Slots.{both-true}
+use Rattle.chars.specs.Base.{pick}
+use Rattle.syntax.specs.Limits.{mostStatements, mostEntries, mostRows, keyCharacters}
+use Rattle.syntax.specs.Policy.{Effect, Allow, Deny, Operator, Value, text, number, Row, Statement, Policy}
+use Rattle.syntax.specs.Forms.{both, either}
+use Rattle.syntax.specs.Members.{hasLike, differ}
+use Rattle.syntax.specs.PolicyLayout.{sameSid}
+use Rattle.held.specs.Held.{anyOf, longText, longValue, rowOver, rowsOver, statementOver, totalOf, rowEntries}
+use Rattle.held.specs.Held.{statementEntries, entries, overLimit}
+use Rattle.parts.proofs.Laws.Slots.{both-true}
 use Rattle.decision.specs.Decision.{sameEffect}
 use Rattle.writing.specs.Valid as Each
 use Rattle.writing.specs.Valid.{Each, Some, ValidAction, ValidResource, ValidValue, ValidRow, ValidRows, ValidStatement}
 use Rattle.writing.specs.Valid.{Valid}
-use Rattle.refine.specs.Entries.{Place, inAction, inResource, inRow}
-use Rattle.refine.specs.Rooms.{Slot, slotsAt, rowSlots, statementSlots, slots, fits}
-use Rattle.refine.specs.Finishing.{kept, behind, textOf, keptTexts, keptRows, hasSome, allSome, isWhole, keptStatement}
-use Rattle.refine.specs.Finishing.{leftBy, refinedPolicy, hasAllow}
-use Rattle.refine.proofs.Laws.Refined.{ValidAt}
+use Rattle.candidates.specs.Entries.{Place, inAction, inResource, inRow}
+use Rattle.rooms.specs.Rooms.{Slot, slotsAt, rowSlots, statementSlots, slots, fits}
+use Rattle.refined.specs.Finishing.{kept, behind, textOf, keptTexts, keptRows, hasSome, allSome, isWhole, keptStatement}
+use Rattle.refined.specs.Finishing.{leftBy, refinedPolicy, hasAllow}
+use Rattle.candidates.proofs.Laws.Refined.{ValidAt}
 use Rattle.demands.proofs.Laws.Narrowing.{false-true, listFits}
 use Rattle.demands.proofs.Laws.NarrowingPolicy.{fits-list, behind-texts, skip, slots-allow, allowSlots}
 use Rattle.demands.proofs.Laws.ValidLists.{either-none, both-false, ListValid, kept-valid, kept-few, each-some}

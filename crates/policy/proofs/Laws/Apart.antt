@@ -9,19 +9,19 @@ use Rattle.text.specs.Json.{Json, list, Values}
 use Rattle.text.specs.Contents.{Stands, Rest, Comes, First}
 use Rattle.text.specs.declared.walk.Element.{Element}
 use Rattle.text.specs.declared.walk.Element.the-variants as E
-use Rattle.policy.specs.Forms.{Reading, read}
-use Rattle.policy.specs.Members.{then, each, hasLike, differ, differing}
-use Rattle.policy.specs.Held.{heldEach}
-use Rattle.policy.specs.Room.{cost, HoldableList}
-use Rattle.policy.specs.Lying.{Lies, Lying, LyingMany}
-use Rattle.policy.specs.Holding.{Extends, Laid, Left, Gathered}
-use Rattle.policy.proofs.Laws.Extends.{extends-then, extends-lies, extends-within}
-use Rattle.policy.proofs.Laws.Formed.{left-then}
-use Rattle.policy.proofs.Laws.Runs.{lies-front}
-use Rattle.policy.proofs.Laws.Differ.{differ-snoc}
-use Rattle.policy.proofs.Laws.Sofar.{sofar-same, twice-wrong, apart-read}
-use Rattle.policy.proofs.Laws.Gathering.{Gathering, gathering-start, gathering-read, whole-told, next, next-each}
-use Rattle.policy.proofs.Laws.Gathering.{next-wrong, gathering-more, start-things, more-things}
+use Rattle.syntax.specs.Forms.{Reading, read}
+use Rattle.syntax.specs.Members.{then, each, hasLike, differ, differing}
+use Rattle.held.specs.Held.{heldEach}
+use Rattle.parts.specs.Room.{cost, HoldableList}
+use Rattle.held.specs.Lying.{Lies, Lying, LyingMany}
+use Rattle.parts.specs.Holding.{Extends, Laid, Left, Gathered}
+use Rattle.parts.proofs.Laws.Extends.{extends-then, extends-lies, extends-within}
+use Rattle.parts.proofs.Laws.Formed.{left-then}
+use Rattle.held.proofs.Laws.Runs.{lies-front}
+use Rattle.parts.proofs.Laws.Differ.{differ-snoc}
+use Rattle.parts.proofs.Laws.Sofar.{sofar-same, twice-wrong, apart-read}
+use Rattle.parts.proofs.Laws.Gathering.{Gathering, gathering-start, gathering-read, whole-told, next, next-each}
+use Rattle.parts.proofs.Laws.Gathering.{next-wrong, gathering-more, start-things, more-things}
 
 -- where no two are alike
 abbrev pub distinctly : {A : Type 0} → (A → A → Bool) → Reading (List A) → Reading (List A)

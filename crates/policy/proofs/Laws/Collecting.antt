@@ -4,19 +4,19 @@ use mathlib.Core.List.{List, [], _∷_, _++_}
 use Prim.Native.Nat.{ℕ, suc, _+_, _-_, _≤_, _<_}
 use native.Mathlib.Omega.{arith}
 use lib.ListN.{length}
-use Rattle.text.specs.Base.{part}
+use Rattle.chars.specs.Base.{part}
 use Rattle.text.specs.Json.{Json, object, Members, no-members, named}
 use Rattle.text.specs.Contents.{Stands, Standing, Others, Continuing, Leads, Leader}
 use Rattle.text.specs.declared.walk.Member.{Member}
 use Rattle.text.specs.declared.walk.Member.the-variants as M
 use Rattle.text.proofs.Laws.Contents.{stands-unique, stands-done}
 use Rattle.text.proofs.Laws.Places.{value-grows}
-use Rattle.policy.specs.Forms.{Reading, read}
-use Rattle.policy.specs.Members.{cons, members}
-use Rattle.policy.specs.Room.{cost, costm, HoldableMember, Holdable, HoldableObject}
-use Rattle.policy.specs.Holding.{Laid, Left}
-use Rattle.policy.proofs.Laws.Walking.{leftOf, left-falls}
-use Rattle.policy.proofs.Laws.Sofar.{Sofar, sofar-start, sofar-roomy, sofar-end, sofar-wrong, sofar-more}
+use Rattle.syntax.specs.Forms.{Reading, read}
+use Rattle.syntax.specs.Members.{cons, members}
+use Rattle.parts.specs.Room.{cost, costm, HoldableMember, Holdable, HoldableObject}
+use Rattle.parts.specs.Holding.{Laid, Left}
+use Rattle.parts.proofs.Laws.Walking.{leftOf, left-falls}
+use Rattle.parts.proofs.Laws.Sofar.{Sofar, sofar-start, sofar-roomy, sofar-end, sofar-wrong, sofar-more}
 
 -- f's things need no more room than the members that they are read from
 module _ {A : Type 0} (h : A → List ℕ) (f : List ℕ → Json → Reading A)

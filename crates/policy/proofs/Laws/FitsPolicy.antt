@@ -10,27 +10,27 @@ use Prim.Native.Nat.{ℕ, _+_, _≤_}
 use native.Mathlib.Omega.{arith}
 use lib.ListN.{length, length-append}
 use Rattle.text.specs.Json.{Json, null, bool, number, string, list, object, Members, no-members, named}
-use Rattle.text.specs.Decoding.{textOf}
+use Rattle.chars.specs.Decoding.{textOf}
 use Rattle.text.specs.Contents.{Stands}
-use Rattle.text.proofs.Laws.Strings.Lengths.{chars-few}
-use Rattle.policy.specs.Policy.{Effect, Operator, Row, Statement, Policy}
-use Rattle.policy.specs.Forms.{Reading, wrong, read}
-use Rattle.policy.specs.Words.{versionWord, statementWord, editionWord, sidWord, effectWord, actionWord}
-use Rattle.policy.specs.Words.{resourceWord, conditionWord}
-use Rattle.policy.specs.Members.{then, only, isWord, Slot, none, many, one, slot, known, required, optional}
-use Rattle.policy.specs.Members.{oneOrMore, members, differ, differing}
-use Rattle.policy.specs.PolicyLayout.{actionOf, resourceOf, rowOf, sameRow, rowsOf, operatorOf, Group, sameGroup}
-use Rattle.policy.specs.PolicyLayout.{groupOf, rowsIn, operatorsIn, conditionOf, effectOf, sidOf, statementIn}
-use Rattle.policy.specs.PolicyLayout.{statementOf, sameSid, policyIn, policyOf}
-use Rattle.policy.specs.Held.{heldText, heldEach, heldList, heldRow, heldStatement, held}
-use Rattle.policy.specs.Room.{cost, costm}
-use Rattle.policy.specs.declared.members.Layout.the-variants as L
-use Rattle.policy.proofs.Laws.Slots.{same-chars}
-use Rattle.policy.proofs.Laws.Room.{cost-within, cost-some, slotCost, slotsCost, layout-room}
-use Rattle.policy.proofs.Laws.Holding.{never}
-use Rattle.policy.proofs.Laws.Sofar.{held-append}
-use Rattle.policy.proofs.Laws.Fits.{wrong-read, then-inv, only-inv, pick-inv, members-fits, parts-fit}
-use Rattle.policy.proofs.Laws.Fits.{row-fits, action-fits, resource-fits, sid-fits}
+use Rattle.chars.proofs.Laws.Strings.Lengths.{chars-few}
+use Rattle.syntax.specs.Policy.{Effect, Operator, Row, Statement, Policy}
+use Rattle.syntax.specs.Forms.{Reading, wrong, read}
+use Rattle.syntax.specs.Words.{versionWord, statementWord, editionWord, sidWord, effectWord, actionWord}
+use Rattle.syntax.specs.Words.{resourceWord, conditionWord}
+use Rattle.syntax.specs.Members.{then, only, isWord, Slot, none, many, one, slot, known, required, optional}
+use Rattle.syntax.specs.Members.{oneOrMore, members, differ, differing}
+use Rattle.syntax.specs.PolicyLayout.{actionOf, resourceOf, rowOf, sameRow, rowsOf, operatorOf, Group, sameGroup}
+use Rattle.syntax.specs.PolicyLayout.{groupOf, rowsIn, operatorsIn, conditionOf, effectOf, sidOf, statementIn}
+use Rattle.syntax.specs.PolicyLayout.{statementOf, sameSid, policyIn, policyOf}
+use Rattle.held.specs.Held.{heldText, heldEach, heldList, heldRow, heldStatement, held}
+use Rattle.parts.specs.Room.{cost, costm}
+use Rattle.parts.specs.declared.members.Layout.the-variants as L
+use Rattle.parts.proofs.Laws.Slots.{same-chars}
+use Rattle.parts.proofs.Laws.Room.{cost-within, cost-some, slotCost, slotsCost, layout-room}
+use Rattle.parts.proofs.Laws.Holding.{never}
+use Rattle.parts.proofs.Laws.Sofar.{held-append}
+use Rattle.parts.proofs.Laws.Fits.{wrong-read, then-inv, only-inv, pick-inv, members-fits, parts-fit}
+use Rattle.parts.proofs.Laws.Fits.{row-fits, action-fits, resource-fits, sid-fits}
 
 -- ---- conditions
 

@@ -8,21 +8,21 @@ use native.Mathlib.Omega.{arith}
 use native.Mathlib.Decide.{ℕ-discrete}
 use lib.ListN.{length, getD, set, replicate, length-append, length-set}
 use lib.Seq.{getD-set-same, getD-set-other}
-use Rattle.text.specs.Base.{pick}
+use Rattle.chars.specs.Base.{pick}
 use Rattle.text.specs.Json.{Json, null, bool, number, string, list, object, Members, no-members, named}
 use Rattle.text.specs.Contents.{kindOf}
-use Rattle.policy.specs.Policy.{Operator, StringEquals, StringLike, NumericLessThanEquals, Row}
-use Rattle.policy.specs.Forms.{Reading, wrong, read, either}
-use Rattle.policy.specs.Members.{then, only, members, hasLike, differ, differing}
-use Rattle.policy.specs.PolicyLayout.{rowOf, sameRow, rowsOf, operatorOf, sameOperator, Group, sameGroup, groupOf}
-use Rattle.policy.specs.PolicyLayout.{rowsIn, operatorsIn, conditionOf}
-use Rattle.policy.specs.Held.{heldEach, heldList, heldRow, operatorNumber}
-use Rattle.policy.specs.Holding.{isObject, Extends, Laid, Left, Gathered}
-use Rattle.policy.proofs.Laws.Holding.{never}
-use Rattle.policy.proofs.Laws.Extends.{extends-front}
-use Rattle.policy.proofs.Laws.Formed.{then-wrong, then-read}
-use Rattle.policy.proofs.Laws.Fits.{wrong-read, then-inv, only-inv, cons-inv}
-use Rattle.policy.proofs.Laws.Sofar.{held-append}
+use Rattle.syntax.specs.Policy.{Operator, StringEquals, StringLike, NumericLessThanEquals, Row}
+use Rattle.syntax.specs.Forms.{Reading, wrong, read, either}
+use Rattle.syntax.specs.Members.{then, only, members, hasLike, differ, differing}
+use Rattle.syntax.specs.PolicyLayout.{rowOf, sameRow, rowsOf, operatorOf, sameOperator, Group, sameGroup, groupOf}
+use Rattle.syntax.specs.PolicyLayout.{rowsIn, operatorsIn, conditionOf}
+use Rattle.held.specs.Held.{heldEach, heldList, heldRow, operatorNumber}
+use Rattle.parts.specs.Holding.{isObject, Extends, Laid, Left, Gathered}
+use Rattle.parts.proofs.Laws.Holding.{never}
+use Rattle.parts.proofs.Laws.Extends.{extends-front}
+use Rattle.parts.proofs.Laws.Formed.{then-wrong, then-read}
+use Rattle.parts.proofs.Laws.Fits.{wrong-read, then-inv, only-inv, cons-inv}
+use Rattle.parts.proofs.Laws.Sofar.{held-append}
 
 -- ---- rows of one operator
 

@@ -5,32 +5,32 @@ use mathlib.Core.List.{List, [], _∷_, _++_}
 use Prim.Native.Nat.{ℕ, _+_, _≤_, _<_}
 use native.Mathlib.Omega.{arith}
 use lib.ListN.{length, getD, set, replicate, length-append}
-use Rattle.text.specs.Base.{part}
+use Rattle.chars.specs.Base.{part}
 use Rattle.text.specs.Json.{Json, null, bool, number, string, list, object, Members, no-members, named}
 use Rattle.text.specs.Contents.{Stands, Standing, Others, Continuing, Leads, Leader, kindOf}
 use Rattle.text.specs.declared.walk.Member.{Member}
 use Rattle.text.specs.declared.walk.Member.the-variants as M
-use Rattle.policy.specs.Policy.{Operator, Row}
-use Rattle.policy.specs.Forms.{Reading, wrong, read}
-use Rattle.policy.specs.Members.{then, members, differ, differing}
-use Rattle.policy.specs.PolicyLayout.{rowsOf, operatorOf, Group, sameGroup, groupOf, rowsIn, operatorsIn}
-use Rattle.policy.specs.PolicyLayout.{conditionOf}
-use Rattle.policy.specs.Held.{heldEach, heldList, heldRow, operatorNumber}
-use Rattle.policy.specs.Room.{cost, Holdable, HoldableObject}
-use Rattle.policy.specs.Spoken.{operatorIs, toldOperator}
-use Rattle.policy.specs.Holding.{isObject, Extends, Laid, Left, Gathered}
-use Rattle.policy.specs.declared.words.Operator as W
-use Rattle.policy.specs.declared.words.Word.{Word}
-use Rattle.policy.specs.declared.words.Word.the-variants.{Is, Wrong}
-use Rattle.policy.proofs.Laws.Holding.{never}
-use Rattle.policy.proofs.Laws.Extends.{extends-front}
-use Rattle.policy.proofs.Laws.Formed.{then-wrong, then-read, left-then}
-use Rattle.policy.proofs.Laws.Fits.{wrong-read, then-inv, only-inv, cons-inv}
+use Rattle.syntax.specs.Policy.{Operator, Row}
+use Rattle.syntax.specs.Forms.{Reading, wrong, read}
+use Rattle.syntax.specs.Members.{then, members, differ, differing}
+use Rattle.syntax.specs.PolicyLayout.{rowsOf, operatorOf, Group, sameGroup, groupOf, rowsIn, operatorsIn}
+use Rattle.syntax.specs.PolicyLayout.{conditionOf}
+use Rattle.held.specs.Held.{heldEach, heldList, heldRow, operatorNumber}
+use Rattle.parts.specs.Room.{cost, Holdable, HoldableObject}
+use Rattle.parts.specs.Spoken.{operatorIs, toldOperator}
+use Rattle.parts.specs.Holding.{isObject, Extends, Laid, Left, Gathered}
+use Rattle.parts.specs.declared.words.Operator as W
+use Rattle.parts.specs.declared.words.Word.{Word}
+use Rattle.parts.specs.declared.words.Word.the-variants.{Is, Wrong}
+use Rattle.parts.proofs.Laws.Holding.{never}
+use Rattle.parts.proofs.Laws.Extends.{extends-front}
+use Rattle.parts.proofs.Laws.Formed.{then-wrong, then-read, left-then}
+use Rattle.parts.proofs.Laws.Fits.{wrong-read, then-inv, only-inv, cons-inv}
 use Rattle.policy.proofs.Laws.FitsPolicy.{group-fits}
-use Rattle.policy.proofs.Laws.Walking.{leftOf}
-use Rattle.policy.proofs.Laws.Differ.{differ-snoc, sameGroup-symmetric}
-use Rattle.policy.proofs.Laws.Sofar.{sofar-same, twice-wrong, apart-read}
-use Rattle.policy.proofs.Laws.Several.{each-some, row-some}
+use Rattle.parts.proofs.Laws.Walking.{leftOf}
+use Rattle.parts.proofs.Laws.Differ.{differ-snoc, sameGroup-symmetric}
+use Rattle.parts.proofs.Laws.Sofar.{sofar-same, twice-wrong, apart-read}
+use Rattle.parts.proofs.Laws.Several.{each-some, row-some}
 use Rattle.policy.proofs.Laws.Collecting.{Collecting, collecting-start, whole-told, collecting-read, next}
 use Rattle.policy.proofs.Laws.Collecting.{next-cost, next-members, next-holdable, next-standing}
 use Rattle.policy.proofs.Laws.Collecting.{next-continuing, next-wrong, collecting-more, collecting-less}

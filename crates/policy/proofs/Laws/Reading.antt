@@ -9,7 +9,7 @@ use lib.Dec.{ltb}
 use lib.ListN.{length, take}
 use lib.Seq.{length-take-le}
 use borrow.Author.Tests.{lt-ltb, le-ltb}
-use Rattle.text.specs.Base.{pick}
+use Rattle.chars.specs.Base.{pick}
 use Rattle.text.specs.Json.{Json, levels, JsonText}
 use Rattle.text.specs.Verdicts.{Text, BreaksAt, Sinks, Means}
 use Rattle.text.specs.Machine.{verdict}
@@ -18,21 +18,21 @@ use Rattle.text.specs.declared.scan.Verdict.{Verdict}
 use Rattle.text.specs.declared.scan.Verdict.the-variants.{Whole, Breaks, Deep}
 use Rattle.text.proofs.Laws.Meaning.{verdict-means, verdict-unique}
 use Rattle.text.proofs.Laws.Contents.{contents, contents-is, contents-says, stands-done, stands-unique}
-use Rattle.policy.specs.Policy.{Policy, Request}
-use Rattle.policy.specs.Forms.{Reading, wrong, read}
-use Rattle.policy.specs.PolicyLayout.{policyOf}
-use Rattle.policy.specs.RecordLayout.{requestOf}
-use Rattle.policy.specs.Held.{held, heldRequest, overLimit}
-use Rattle.policy.specs.Room.{cost, Holdable}
-use Rattle.policy.specs.Holding.{Laid, Left, Extends}
-use Rattle.policy.specs.Lying.{Lies}
+use Rattle.syntax.specs.Policy.{Policy, Request}
+use Rattle.syntax.specs.Forms.{Reading, wrong, read}
+use Rattle.syntax.specs.PolicyLayout.{policyOf}
+use Rattle.syntax.specs.RecordLayout.{requestOf}
+use Rattle.held.specs.Held.{held, heldRequest, overLimit}
+use Rattle.parts.specs.Room.{cost, Holdable}
+use Rattle.parts.specs.Holding.{Laid, Left, Extends}
+use Rattle.held.specs.Lying.{Lies}
 use Rattle.policy.specs.Reading.{Outcome, refused, known, Rules, policyComes, requestComes, policyRules}
 use Rattle.policy.specs.Reading.{recordRules, Says, long, broken, deep, text, Knows, Answers, Lent, Fit}
 use Rattle.policy.specs.declared.refusals.Refusal.the-variants.{PolicyLayout, PolicyLimit, RecordLayout}
 use Rattle.policy.specs.declared.reading.Read.{Read}
 use Rattle.policy.specs.declared.reading.Read.the-variants as R
-use Rattle.policy.proofs.Laws.Room.{cost-within}
-use Rattle.policy.proofs.Laws.Extends.{extends-within, extends-lies}
+use Rattle.parts.proofs.Laws.Room.{cost-within}
+use Rattle.parts.proofs.Laws.Extends.{extends-within, extends-lies}
 
 -- ---- one outcome
 

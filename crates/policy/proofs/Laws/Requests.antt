@@ -1,10 +1,4 @@
 -- Laws for holding a record: its tests, its lists of one, its context entries and what the whole says.
-pub mod Tests
-pub mod Members
-pub mod Sole
-pub mod Laying
-pub mod Lying
-pub mod Objects
 pub mod Context
 pub mod Fits
 pub mod Contexts

@@ -5,27 +5,27 @@ use mathlib.Core.List.{List, [], _∷_, _++_}
 use Prim.Native.Nat.{ℕ, suc, _+_, _≤_, _<_}
 use native.Mathlib.Omega.{arith}
 use lib.ListN.{length, set}
-use Rattle.text.specs.Base.{part}
+use Rattle.chars.specs.Base.{part}
 use Rattle.text.specs.Json.{Json, null, bool, number, string, list, object, Members, no-members, named}
 use Rattle.text.specs.Contents.{Stands, Standing, Others, Continuing, Leads, Leader}
 use Rattle.text.specs.declared.walk.Member.{Member}
 use Rattle.text.specs.declared.walk.Member.the-variants as M
-use Rattle.policy.specs.Policy.{Operator, Value, Row}
-use Rattle.policy.specs.Forms.{Reading, wrong, read, isKey}
-use Rattle.policy.specs.Members.{then, characters, oneOrMore, members, cons, hasLike, differ, differing}
-use Rattle.policy.specs.PolicyLayout.{keyOf, valueOf, rowOf, sameRow, rowsOf}
-use Rattle.policy.specs.Held.{heldText, heldEach, heldList, heldValue, heldRow, operatorNumber}
-use Rattle.policy.specs.Room.{HoldableMember, HoldableObject}
-use Rattle.policy.specs.Holding.{isObject, Extends, Laid, Left, Gathered}
-use Rattle.policy.specs.Lying.{Lies, Lying, LyingMany}
-use Rattle.policy.proofs.Laws.Holding.{never}
-use Rattle.policy.proofs.Laws.Extends.{extends-front, extends-then, extends-lies, extends-within}
-use Rattle.policy.proofs.Laws.Formed.{then-wrong, then-read, left-then}
-use Rattle.policy.proofs.Laws.Fits.{then-inv, only-inv, characters-few, row-fits}
-use Rattle.policy.proofs.Laws.Walking.{leftOf}
-use Rattle.policy.proofs.Laws.Differ.{differ-snoc, sameRow-symmetric}
-use Rattle.policy.proofs.Laws.Sofar.{snoc-length, sofar-same, twice-wrong, apart-read}
-use Rattle.policy.proofs.Laws.Runs.{lies-front}
+use Rattle.syntax.specs.Policy.{Operator, Value, Row}
+use Rattle.syntax.specs.Forms.{Reading, wrong, read, isKey}
+use Rattle.syntax.specs.Members.{then, characters, oneOrMore, members, cons, hasLike, differ, differing}
+use Rattle.syntax.specs.PolicyLayout.{keyOf, valueOf, rowOf, sameRow, rowsOf}
+use Rattle.held.specs.Held.{heldText, heldEach, heldList, heldValue, heldRow, operatorNumber}
+use Rattle.parts.specs.Room.{HoldableMember, HoldableObject}
+use Rattle.parts.specs.Holding.{isObject, Extends, Laid, Left, Gathered}
+use Rattle.held.specs.Lying.{Lies, Lying, LyingMany}
+use Rattle.parts.proofs.Laws.Holding.{never}
+use Rattle.parts.proofs.Laws.Extends.{extends-front, extends-then, extends-lies, extends-within}
+use Rattle.parts.proofs.Laws.Formed.{then-wrong, then-read, left-then}
+use Rattle.parts.proofs.Laws.Fits.{then-inv, only-inv, characters-few, row-fits}
+use Rattle.parts.proofs.Laws.Walking.{leftOf}
+use Rattle.parts.proofs.Laws.Differ.{differ-snoc, sameRow-symmetric}
+use Rattle.parts.proofs.Laws.Sofar.{snoc-length, sofar-same, twice-wrong, apart-read}
+use Rattle.held.proofs.Laws.Runs.{lies-front}
 use Rattle.policy.proofs.Laws.Collecting.{Collecting, collecting-start, whole-told, collecting-read, next}
 use Rattle.policy.proofs.Laws.Collecting.{next-cost, next-members, next-member, next-standing, next-continuing}
 use Rattle.policy.proofs.Laws.Collecting.{next-wrong, collecting-more, collecting-less}

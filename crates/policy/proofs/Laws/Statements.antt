@@ -11,25 +11,25 @@ use native.Mathlib.Omega.{arith}
 use lib.ListN.{length, getD, set}
 use Rattle.text.specs.Json.{Json, null, bool, number, string, list, object, Members}
 use Rattle.text.specs.Contents.{kindOf, Standing}
-use Rattle.policy.specs.Policy.{Effect, Statement}
-use Rattle.policy.specs.Forms.{Reading, wrong, read}
-use Rattle.policy.specs.Words.{sidWord, effectWord, actionWord, resourceWord, conditionWord}
-use Rattle.policy.specs.Members.{then, many, slot, known, required, optional, oneOrMore}
-use Rattle.policy.specs.Slots.{wordsOf, wordAt, Placed, Turn, Repeated, Slotted}
-use Rattle.policy.specs.PolicyLayout.{actionOf, resourceOf, conditionOf, effectOf, sidOf, statementIn}
-use Rattle.policy.specs.PolicyLayout.{statementOf}
-use Rattle.policy.specs.Held.{heldStatement, effectNumber}
-use Rattle.policy.specs.Room.{cost, costm}
-use Rattle.policy.specs.Holding.{isObject, Extends, Laid, Left, Holds}
+use Rattle.syntax.specs.Policy.{Effect, Statement}
+use Rattle.syntax.specs.Forms.{Reading, wrong, read}
+use Rattle.syntax.specs.Words.{sidWord, effectWord, actionWord, resourceWord, conditionWord}
+use Rattle.syntax.specs.Members.{then, many, slot, known, required, optional, oneOrMore}
+use Rattle.parts.specs.Slots.{wordsOf, wordAt, Placed, Turn, Repeated, Slotted}
+use Rattle.syntax.specs.PolicyLayout.{actionOf, resourceOf, conditionOf, effectOf, sidOf, statementIn}
+use Rattle.syntax.specs.PolicyLayout.{statementOf}
+use Rattle.held.specs.Held.{heldStatement, effectNumber}
+use Rattle.parts.specs.Room.{cost, costm}
+use Rattle.parts.specs.Holding.{isObject, Extends, Laid, Left, Holds}
 use Rattle.policy.specs.Statements.{effectTold, partsOf, heldParts, HoldableParts}
 use Rattle.policy.specs.Statements as S
-use Rattle.policy.specs.declared.holding.Held.{Held}
-use Rattle.policy.specs.declared.members.Layout.the-variants as L
-use Rattle.policy.proofs.Laws.Holding.{never}
-use Rattle.policy.proofs.Laws.Extends.{extends-front}
-use Rattle.policy.proofs.Laws.Room.{slotCost, slotsCost, layout-room}
-use Rattle.policy.proofs.Laws.Formed.{then-read}
-use Rattle.policy.proofs.Laws.Several.{is-object}
+use Rattle.parts.specs.declared.holding.Held.{Held}
+use Rattle.parts.specs.declared.members.Layout.the-variants as L
+use Rattle.parts.proofs.Laws.Holding.{never}
+use Rattle.parts.proofs.Laws.Extends.{extends-front}
+use Rattle.parts.proofs.Laws.Room.{slotCost, slotsCost, layout-room}
+use Rattle.parts.proofs.Laws.Formed.{then-read}
+use Rattle.parts.proofs.Laws.Several.{is-object}
 use Rattle.policy.proofs.Laws.FitsPolicy.{Parts, parts-inv}
 use Rattle.policy.proofs.Laws.StatementsParts.{There, placed-absent, placed-there}
 use Rattle.policy.proofs.Laws.StatementsRead.{not-read, both-ways, pick-no, pick-wrong, pick-yes, right, turn-of}

@@ -10,20 +10,20 @@ use native.Mathlib.Omega.{arith}
 use lib.ListN.{length, set, length-map}
 use Rattle.text.specs.Json.{Json, null, bool, number, string, list, object, Values, no-more, also}
 use Rattle.text.specs.Contents.{Stands}
-use Rattle.policy.specs.Policy.{Value, text}
-use Rattle.policy.specs.Forms.{Reading, wrong, read}
-use Rattle.policy.specs.Members.{then, Slot, none, one, many, optional, cons, each, some, oneOrMore}
-use Rattle.policy.specs.Slots.{Placed, absent, stands}
-use Rattle.policy.specs.PolicyLayout.{asText, actionOf, resourceOf, sidOf, conditionOf}
-use Rattle.policy.specs.Held.{heldText, heldEach, heldList, heldValue, heldRow}
-use Rattle.policy.specs.Room.{cost, Holdable, costOf, HoldableSlot}
-use Rattle.policy.specs.Holding.{Extends, Laid, Left, Holds}
+use Rattle.syntax.specs.Policy.{Value, text}
+use Rattle.syntax.specs.Forms.{Reading, wrong, read}
+use Rattle.syntax.specs.Members.{then, Slot, none, one, many, optional, cons, each, some, oneOrMore}
+use Rattle.parts.specs.Slots.{Placed, absent, stands}
+use Rattle.syntax.specs.PolicyLayout.{asText, actionOf, resourceOf, sidOf, conditionOf}
+use Rattle.held.specs.Held.{heldText, heldEach, heldList, heldValue, heldRow}
+use Rattle.parts.specs.Room.{cost, Holdable, costOf, HoldableSlot}
+use Rattle.parts.specs.Holding.{Extends, Laid, Left, Holds}
 use Rattle.policy.specs.Statements.{partsOf, heldParts}
-use Rattle.policy.specs.declared.holding.Held.{Held}
-use Rattle.policy.specs.declared.holding.Held.the-variants.{Past, Wrong}
-use Rattle.policy.proofs.Laws.Extends.{extends-none, extends-front, extends-then}
-use Rattle.policy.proofs.Laws.Formed.{then-wrong, then-read, left-then}
-use Rattle.policy.proofs.Laws.Fits.{wrong-read, then-inv, one-or-more-fits, sid-fits}
+use Rattle.parts.specs.declared.holding.Held.{Held}
+use Rattle.parts.specs.declared.holding.Held.the-variants.{Past, Wrong}
+use Rattle.parts.proofs.Laws.Extends.{extends-none, extends-front, extends-then}
+use Rattle.parts.proofs.Laws.Formed.{then-wrong, then-read, left-then}
+use Rattle.parts.proofs.Laws.Fits.{wrong-read, then-inv, one-or-more-fits, sid-fits}
 
 -- ---- a member that may be absent
 

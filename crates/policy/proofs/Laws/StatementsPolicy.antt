@@ -11,25 +11,25 @@ use native.Mathlib.Omega.{arith}
 use lib.ListN.{length, getD, set}
 use Rattle.text.specs.Json.{Json, null, bool, number, string, list, object, Values, no-more, also, Members}
 use Rattle.text.specs.Contents.{kindOf, Standing}
-use Rattle.policy.specs.Policy.{Statement, Policy}
-use Rattle.policy.specs.Forms.{Reading, wrong, read}
-use Rattle.policy.specs.Words.{versionWord, statementWord, editionWord}
-use Rattle.policy.specs.Members.{then, only, isWord, Slot, many, slot, known, required, cons, each}
-use Rattle.policy.specs.Members.{some, oneOrMore, hasLike, differ, differing}
-use Rattle.policy.specs.Slots.{wordsOf, wordAt, Placed, Turn, Repeated, Slotted}
-use Rattle.policy.specs.PolicyLayout.{statementOf, sameSid, policyIn, policyOf}
-use Rattle.policy.specs.Held.{heldEach, heldStatement, held}
-use Rattle.policy.specs.Room.{cost, Holdable}
-use Rattle.policy.specs.Holding.{isList, isObject, Extends, Laid, Left, Gathered, Holds}
-use Rattle.policy.specs.declared.holding.Held.{Held}
-use Rattle.policy.specs.declared.members.Layout.the-variants as L
-use Rattle.policy.proofs.Laws.Holding.{never}
-use Rattle.policy.proofs.Laws.Extends.{extends-front}
-use Rattle.policy.proofs.Laws.Formed.{then-wrong, then-read, left-then}
-use Rattle.policy.proofs.Laws.Several.{one-is, one-left}
-use Rattle.policy.proofs.Laws.Sofar.{held-one}
-use Rattle.policy.proofs.Laws.Room.{slotCost, slotsCost, layout-room}
-use Rattle.policy.proofs.Laws.Fits.{then-inv, only-inv, cons-inv}
+use Rattle.syntax.specs.Policy.{Statement, Policy}
+use Rattle.syntax.specs.Forms.{Reading, wrong, read}
+use Rattle.syntax.specs.Words.{versionWord, statementWord, editionWord}
+use Rattle.syntax.specs.Members.{then, only, isWord, Slot, many, slot, known, required, cons, each}
+use Rattle.syntax.specs.Members.{some, oneOrMore, hasLike, differ, differing}
+use Rattle.parts.specs.Slots.{wordsOf, wordAt, Placed, Turn, Repeated, Slotted}
+use Rattle.syntax.specs.PolicyLayout.{statementOf, sameSid, policyIn, policyOf}
+use Rattle.held.specs.Held.{heldEach, heldStatement, held}
+use Rattle.parts.specs.Room.{cost, Holdable}
+use Rattle.parts.specs.Holding.{isList, isObject, Extends, Laid, Left, Gathered, Holds}
+use Rattle.parts.specs.declared.holding.Held.{Held}
+use Rattle.parts.specs.declared.members.Layout.the-variants as L
+use Rattle.parts.proofs.Laws.Holding.{never}
+use Rattle.parts.proofs.Laws.Extends.{extends-front}
+use Rattle.parts.proofs.Laws.Formed.{then-wrong, then-read, left-then}
+use Rattle.parts.proofs.Laws.Several.{one-is, one-left}
+use Rattle.parts.proofs.Laws.Sofar.{held-one}
+use Rattle.parts.proofs.Laws.Room.{slotCost, slotsCost, layout-room}
+use Rattle.parts.proofs.Laws.Fits.{then-inv, only-inv, cons-inv}
 use Rattle.policy.proofs.Laws.StatementsParts.{There, placed-absent, placed-there}
 use Rattle.policy.proofs.Laws.StatementsRead.{not-read, both-ways, pick-no, pick-wrong, pick-yes, right, turn-of}
 use Rattle.policy.proofs.Laws.StatementsRead.{required-none}

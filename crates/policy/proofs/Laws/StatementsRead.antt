@@ -9,18 +9,18 @@ use mathlib.Core.List.{List}
 use Prim.Native.Nat.{ℕ, _≤_, _<_}
 use native.Mathlib.Omega.{arith}
 use lib.ListN.{length, getD}
-use Rattle.text.specs.Base.{pick}
+use Rattle.chars.specs.Base.{pick}
 use Rattle.text.specs.Json.{Json, Members}
-use Rattle.policy.specs.Policy.{Effect, Allow, Deny, Row, Statement}
-use Rattle.policy.specs.Forms.{Reading, wrong, read}
-use Rattle.policy.specs.Members.{then, Slot, none, one, many, slot, known, required}
-use Rattle.policy.specs.Slots.{wordsOf, wordAt, Placed, Turn, Slotted}
-use Rattle.policy.specs.Room.{costOf}
+use Rattle.syntax.specs.Policy.{Effect, Allow, Deny, Row, Statement}
+use Rattle.syntax.specs.Forms.{Reading, wrong, read}
+use Rattle.syntax.specs.Members.{then, Slot, none, one, many, slot, known, required}
+use Rattle.parts.specs.Slots.{wordsOf, wordAt, Placed, Turn, Slotted}
+use Rattle.parts.specs.Room.{costOf}
 use Rattle.policy.specs.Statements.{effectTold}
 use Rattle.policy.specs.Statements as S
-use Rattle.policy.specs.declared.members.Layout.{Layout}
-use Rattle.policy.proofs.Laws.Room.{slotCost}
-use Rattle.policy.proofs.Laws.Fits.{wrong-read}
+use Rattle.parts.specs.declared.members.Layout.{Layout}
+use Rattle.parts.proofs.Laws.Room.{slotCost}
+use Rattle.parts.proofs.Laws.Fits.{wrong-read}
 
 -- ---- readings
 

@@ -1,6 +1,6 @@
 -- A run of another length is refused untouched; otherwise the numbers are those of reading's answer.
 use mathlib.Core.Path.{refl}
-use Rattle.policy.specs.Held.{held}
+use Rattle.held.specs.Held.{held}
 use Rattle.policy.specs.Reading.{policyRules}
 use Rattle.policy_probe.specs.Numbers.{unfit}
 use Rattle.policy_probe.proofs.Laws.Numbers.{tells}

@@ -9,32 +9,32 @@ use native.Mathlib.Omega.{arith}
 use lib.Dec.{leb}
 use lib.ListN.{length}
 use borrow.Author.Tests.{leb-true}
-use Rattle.text.specs.Base.{pick}
+use Rattle.chars.specs.Base.{pick}
 use Rattle.text.specs.Json.{Json, null, bool, number, string, list, object, Values, no-more, also}
-use Rattle.policy.specs.Limits.{entryCharacters, mostContext}
-use Rattle.policy.specs.Words.{actionNamesWord, resourceArnsWord, contextEntriesWord, contextKeyNameWord}
-use Rattle.policy.specs.Words.{contextKeyTypeWord, contextKeyValuesWord, stringTypeWord, numericTypeWord}
-use Rattle.policy.specs.Policy.{Effect, Allow, Deny, Value, text, Row, Statement, Policy, Context, Request}
-use Rattle.policy.specs.Policy as P
-use Rattle.policy.specs.Forms.{Reading, wrong, read, both, either, all, isVendor, isArn, same, sameKey, numberIn}
-use Rattle.policy.specs.Members.{Slot, none, one, many, then, only, charactersOf, isWord, slot, known, required}
-use Rattle.policy.specs.Members.{optional, each, differ}
-use Rattle.policy.specs.RecordLayout.{onlyOne, short, isPlain, isActionName, actionNameOf, isResourceArn}
-use Rattle.policy.specs.RecordLayout.{resourceArnOf, keyNameOf, asNumber, typedOf, contextOf, sameContext, contextsOf}
-use Rattle.policy.specs.RecordLayout.{requestOf}
-use Rattle.policy.proofs.Laws.Fits.{wrong-read, then-inv, only-inv, pick-inv, cons-inv}
-use Rattle.policy.proofs.Laws.Slots.{both-true}
+use Rattle.syntax.specs.Limits.{entryCharacters, mostContext}
+use Rattle.syntax.specs.Words.{actionNamesWord, resourceArnsWord, contextEntriesWord, contextKeyNameWord}
+use Rattle.syntax.specs.Words.{contextKeyTypeWord, contextKeyValuesWord, stringTypeWord, numericTypeWord}
+use Rattle.syntax.specs.Policy.{Effect, Allow, Deny, Value, text, Row, Statement, Policy, Context, Request}
+use Rattle.syntax.specs.Policy as P
+use Rattle.syntax.specs.Forms.{Reading, wrong, read, both, either, all, isVendor, isArn, same, sameKey, numberIn}
+use Rattle.syntax.specs.Members.{Slot, none, one, many, then, only, charactersOf, isWord, slot, known, required}
+use Rattle.syntax.specs.Members.{optional, each, differ}
+use Rattle.syntax.specs.RecordLayout.{onlyOne, short, isPlain, isActionName, actionNameOf, isResourceArn}
+use Rattle.syntax.specs.RecordLayout.{resourceArnOf, keyNameOf, asNumber, typedOf, contextOf, sameContext, contextsOf}
+use Rattle.syntax.specs.RecordLayout.{requestOf}
+use Rattle.parts.proofs.Laws.Fits.{wrong-read, then-inv, only-inv, pick-inv, cons-inv}
+use Rattle.parts.proofs.Laws.Slots.{both-true}
 use Rattle.decision.specs.Decision.{Found, nothing, found, valueAt, sameEffect, isNone, partOf, decide}
 use Rattle.decision.specs.declared.deciding.Decision.{Decision}
 use Rattle.decision.specs.declared.deciding.Decision.the-variants.{Denied, Allowed, Implicit}
 use Rattle.writing.specs.Valid as Each
 use Rattle.writing.specs.Valid.{Each}
 use Rattle.writing.proofs.Laws.TreeRead.{only-test}
-use Rattle.refine.specs.Entries.{Place, inAction, inResource, inRow, meetsAt}
-use Rattle.refine.specs.Rooms as R
-use Rattle.refine.specs.Rooms.{slotsAt, rowSlots, statementSlots, slots, hit, hits, rowHits, statementHits}
-use Rattle.refine.specs.Rooms.{isCharged, statementCharges, allowedCharges, byDecision, charges}
-use Rattle.refine.specs.Walking.{Short, Chargeable, RightAt, Right, all-right, one-right}
+use Rattle.candidates.specs.Entries.{Place, inAction, inResource, inRow, meetsAt}
+use Rattle.rooms.specs.Rooms as R
+use Rattle.rooms.specs.Rooms.{slotsAt, rowSlots, statementSlots, slots, hit, hits, rowHits, statementHits}
+use Rattle.rooms.specs.Rooms.{isCharged, statementCharges, allowedCharges, byDecision, charges}
+use Rattle.rooms.specs.Walking.{Short, Chargeable, RightAt, Right, all-right, one-right}
 use Rattle.refine.specs.Sound.{ShortRequest}
 
 -- ---- a request that was read

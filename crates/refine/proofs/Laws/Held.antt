@@ -2,38 +2,41 @@
 --   sound-read, short-read        what was read is sound, and short
 --   listable, listed              the list of entries has room, and what it tells
 --   few-slots                     a room has a row for each slot
+--   holding-fresh, holding-fed    an empty room is one of the policy's; one that was fed still is
 use mathlib.Core.Path.{_≡_, refl, sym, ap, _∙_, subst}
 use mathlib.Core.Bool.{Bool, true, false}
 use mathlib.Core.List.{List, [], _∷_, _++_}
 use Prim.Native.Nat.{ℕ, _+_, _*_, _≤_}
 use native.Mathlib.Omega.{arith}
 use lib.Dec.{ltb, eqb}
-use lib.ListN.{length, take, drop, take-append-drop}
-use borrow.Author.Tests.{ltb-false, eqb-true}
+use lib.ListN.{length, take, drop, take-append-drop, length-replicate}
+use borrow.Author.Tests.{ltb-false, eqb-true, eq-eqb}
 use Rattle.text.specs.Verdicts.{Text}
 use Rattle.text.specs.Json.{Json}
-use Rattle.policy.specs.Limits.{mostStatements, mostEntries, runNumbers}
-use Rattle.policy.specs.Policy.{Policy, Request}
-use Rattle.policy.specs.Forms.{Reading, wrong, read, either}
-use Rattle.policy.specs.Held.{heldEach, held, heldRequest, entries, overLimit, anyOf, statementOver}
-use Rattle.policy.specs.Lying.{Lies}
+use Rattle.syntax.specs.Limits.{mostStatements, mostEntries, runNumbers}
+use Rattle.syntax.specs.Policy.{Policy, Request}
+use Rattle.syntax.specs.Forms.{Reading, wrong, read, either}
+use Rattle.held.specs.Held.{heldEach, held, heldRequest, entries, overLimit, anyOf, statementOver}
+use Rattle.held.specs.Lying.{Lies}
 use Rattle.policy.specs.Reading.{Outcome, refused, known, requestComes, policyRules, recordRules, Says, long, broken}
 use Rattle.policy.specs.Reading.{deep, text}
-use Rattle.policy.specs.RecordLayout.{requestOf}
+use Rattle.syntax.specs.RecordLayout.{requestOf}
 use Rattle.decision.specs.Decision.{Found, decide}
 use Rattle.decision.specs.declared.deciding.Decision.{Decision}
 use Rattle.decision.specs.declared.deciding.Decision.the-variants.{Denied, Allowed, Implicit}
 use Rattle.writing.proofs.Laws.Operations.{read-limits, read-valid}
-use Rattle.refine.specs.Rows.{rowNumbers}
-use Rattle.refine.specs.Rooms.{Slot, slots, none, allowedCharges, byDecision, charges, fed, met}
-use Rattle.refine.specs.Listing.{noted, noteNumbers, Told, Lists, Listable, Charging, RequestIf, chargesIf}
-use Rattle.refine.specs.Walking.{Listed, Right, Roomy, Fed, Met}
+use Rattle.candidates.specs.Rows.{rowNumbers}
+use Rattle.rooms.specs.Rooms.{Slot, slots, none, allowedCharges, byDecision, charges, fed, met}
+use Rattle.rooms.specs.Listing.{noted, noteNumbers, Told, Lists, Listable, Charging, RequestIf, chargesIf}
+use Rattle.rooms.specs.Walking.{Listed, Right, Roomy, Fed, Met}
 use Rattle.refine.specs.Operations.{roomNumbers, isRoom, holdsFor, Feeds, Joins, Finishes, Done, done}
 use Rattle.refine.specs.Operations as O
-use Rattle.refine.specs.Sound.{Sound, ShortRequest, HeldSound, PolicyFeeds, PolicyJoins, PolicyFinishes}
+use Rattle.refine.specs.Sound.{Sound, ShortRequest, HeldSound, Holding, PolicyFeeds, PolicyJoins, PolicyFinishes}
 use Rattle.refine.specs.Sound as S
-use Rattle.refine.proofs.Laws.ListingStatement.{policy-slots-many}
-use Rattle.refine.proofs.Laws.Charged.{request-short}
+use Rattle.rooms.proofs.Laws.ListingStatement.{policy-slots-many}
+use Rattle.rooms.proofs.Laws.Fed.{fed-fits}
+use Rattle.rooms.proofs.Laws.Empty.{zeros, zeros-fit}
+use Rattle.refine.proofs.Laws.Charged.{request-short, none-right, charges-right}
 
 -- ---- what was read
 
@@ -175,6 +178,44 @@ pub record-fed :
 record-fed {p} {q} {asked} {room} {after} {d} f a e =
     subst (λ (x : Decision). PolicyFeeds p asked room (known x) after) (sym (e .0))
     (subst (PolicyFeeds p asked room (known (decide p q))) (sym (e .1)) (S.feeds f a))
+
+module _ (p : Policy) where
+  right-by : {asked : List ℕ} (q : Request) (d : Decision) → Says recordRules asked (known q)
+      → Right (slots p) (byDecision d p q)
+  right-by q (Allowed n) b = charges-right q (short-read b) p
+  right-by q (Denied n) b = none-right (slots p)
+  right-by q Implicit b = none-right (slots p)
+
+  pub right-charges : {asked : List ℕ} (q : Request) → Says recordRules asked (known q) → Right (slots p) (charges p q)
+  unfolding charges
+  right-charges q b = right-by q (decide p q) b
+
+feeds-fit : {p : Policy} {asked room after : List ℕ} {x : Outcome Decision} → Sound p → isRoom room ≡ true
+    → holdsFor p room ≡ true → PolicyFeeds p asked room x after → holdsFor p after ≡ true
+feeds-fit s e f (S.no-content g) = f
+feeds-fit s e f (S.no-record g b) = f
+feeds-fit {p} {room = room} s e f (S.feeds {r = q} g b) =
+    fed-fits (slots p) (charges p q) room (right-charges p q b) (rows-enough room s e) f
+
+pub holding-fed : {run asked room after : List ℕ} {x : Outcome Decision} (h : Holding run room)
+    → PolicyFeeds (h .held-sound .policy) asked room x after → length after ≡ length room → Holding run after
+holding-fed {after = after} h g n =
+    record {
+      held-sound = h .held-sound;
+      size = ap (λ (k : ℕ). eqb k roomNumbers) n ∙ h .size;
+      content = feeds-fit (h .held-sound .sound) (h .size) (h .content) g;
+    }
+
+pub holding-fresh : {run : List ℕ} → HeldSound run → Holding run (zeros roomNumbers)
+holding-fresh h =
+    let e : isRoom (zeros roomNumbers) ≡ true
+    = eq-eqb (length (zeros roomNumbers)) roomNumbers (length-replicate {A = ℕ} roomNumbers 0) in
+    record {
+      held-sound = h;
+      size = e;
+      content = zeros-fit (slots (h .policy)) roomNumbers
+          (omega (arith, rows-enough (zeros roomNumbers) (h .sound) e, length-replicate {A = ℕ} roomNumbers 0));
+    }
 
 pub rooms-joined :
     (p : Policy) {room other after : List ℕ} → holdsFor p room ≡ true → holdsFor p other ≡ true

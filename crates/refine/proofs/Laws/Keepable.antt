@@ -10,33 +10,33 @@ use lib.Dec.{leb, ltb}
 use lib.ListN.{length, take, drop, length-append, length-drop}
 use lib.Seq.{length-take-le, drop-drop}
 use borrow.Author.Tests.{leb-true}
-use Rattle.text.specs.Base.{pick}
-use Rattle.policy.specs.Limits.{entryCharacters, greatest}
-use Rattle.policy.specs.Policy.{star, Effect, Allow, Deny, Operator, StringEquals, StringLike, NumericLessThanEquals}
-use Rattle.policy.specs.Policy.{Value, text, number, Row, Statement, Policy}
-use Rattle.policy.specs.Forms.{both, all}
-use Rattle.policy.specs.Held.{mark}
-use Rattle.policy.proofs.Laws.Slots.{both-true}
+use Rattle.chars.specs.Base.{pick}
+use Rattle.syntax.specs.Limits.{entryCharacters, greatest}
+use Rattle.syntax.specs.Policy.{star, Effect, Allow, Deny, Operator, StringEquals, StringLike, NumericLessThanEquals}
+use Rattle.syntax.specs.Policy.{Value, text, number, Row, Statement, Policy}
+use Rattle.syntax.specs.Forms.{both, all}
+use Rattle.held.specs.Held.{mark}
+use Rattle.parts.proofs.Laws.Slots.{both-true}
 use Rattle.decision.specs.Decision.{sameEffect}
 use Rattle.writing.specs.Valid as Each
 use Rattle.writing.specs.Valid.{Each, Some, ValidValue, equals, like, at-most, ValidRow, ValidStatement, Valid}
-use Rattle.refine.specs.Candidates.{itself, single, under, upTo, Content, empty, holds, Kind, isContent}
-use Rattle.refine.specs.Beginnings.{begins}
-use Rattle.refine.specs.Kinds.{bounds}
-use Rattle.refine.specs.Entries.{Place, inAction, inResource, inRow, isPlain, isLegal, hasForm, legalBeginning}
-use Rattle.refine.specs.Entries.{wildKind, before}
-use Rattle.refine.specs.Rows.{rowNumbers, textCharacters, row, contentOf, isRow}
-use Rattle.refine.specs.Joining.{Textual, no-text, whole-text, one-text, begun-text, Numeric, no-number, one-number}
-use Rattle.refine.specs.Rooms.{Slot, slotKind, slotsAt, rowSlots, statementSlots, slots, rowFits, fits}
-use Rattle.refine.specs.Keeping.{Writable, Writ, WritRows, no-rows, a-row, rowValues, statementValues, WritPolicy}
-use Rattle.refine.specs.Keeping.{policyValues}
-use Rattle.refine.specs.Keeping as K
+use Rattle.candidates.specs.Candidates.{itself, single, under, upTo, Content, empty, holds, Kind, isContent}
+use Rattle.candidates.specs.Beginnings.{begins}
+use Rattle.candidates.specs.Kinds.{bounds}
+use Rattle.candidates.specs.Entries.{Place, inAction, inResource, inRow, isPlain, isLegal, hasForm, legalBeginning}
+use Rattle.candidates.specs.Entries.{wildKind, before}
+use Rattle.candidates.specs.Rows.{rowNumbers, textCharacters, row, contentOf, isRow}
+use Rattle.candidates.specs.Joining.{Textual, no-text, whole-text, one-text, begun-text, Numeric, no-number, one-number}
+use Rattle.rooms.specs.Rooms.{Slot, slotKind, slotsAt, rowSlots, statementSlots, slots, rowFits, fits}
+use Rattle.refined.specs.Keeping.{Writable, Writ, WritRows, no-rows, a-row, rowValues, statementValues, WritPolicy}
+use Rattle.refined.specs.Keeping.{policyValues}
+use Rattle.refined.specs.Keeping as K
 use Rattle.refine.specs.Operations.{isRoom, holdsFor}
 use Rattle.refine.specs.Sound.{Sound}
-use Rattle.refine.proofs.Laws.FittingWild.{byTests, noWildcard, finalStar, kind-is}
-use Rattle.refine.proofs.Laws.Handling.{Handled, denied, alone, wild, bound, handles, Alone, Wild, Bound}
-use Rattle.refine.proofs.Laws.Handling.{Mark, no-mark, a-mark, mark-only, made, back}
-use Rattle.refine.proofs.Laws.HandlingRows.{kind-row, number-of, text-of}
+use Rattle.candidates.proofs.Laws.FittingWild.{byTests, noWildcard, finalStar, kind-is}
+use Rattle.rooms.proofs.Laws.Handling.{Handled, denied, alone, wild, bound, handles, Alone, Wild, Bound}
+use Rattle.rooms.proofs.Laws.Handling.{Mark, no-mark, a-mark, mark-only, made, back}
+use Rattle.rooms.proofs.Laws.HandlingRows.{kind-row, number-of, text-of}
 use Rattle.refine.proofs.Laws.Held.{rows-enough}
 
 -- ---- one row

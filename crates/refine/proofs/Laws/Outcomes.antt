@@ -5,7 +5,7 @@ use mathlib.Core.Bool.{Bool, true, false}
 use mathlib.Core.List.{List}
 use Prim.Native.Nat.{ℕ}
 use native.Mathlib.Omega.{arith}
-use Rattle.policy.specs.Policy.{Policy, Request}
+use Rattle.syntax.specs.Policy.{Policy, Request}
 use Rattle.policy.specs.Reading.{Outcome, refused, known, policyRules, recordRules, Says}
 use Rattle.policy.specs.declared.refusals.Refusal.{Refusal}
 use Rattle.policy.specs.declared.refusals.Refusal.the-variants.{RoomLength, RoomContent, NoAllow}
@@ -15,8 +15,8 @@ use Rattle.decision.specs.declared.deciding.Decision.{Decision}
 use Rattle.writing.specs.WrittenForm.{writtenPolicy}
 use Rattle.writing.specs.Operations.{handed}
 use Rattle.writing.proofs.Laws.Operations.{handed-kept}
-use Rattle.refine.specs.Rooms.{slots, charges, fed, met}
-use Rattle.refine.specs.Finishing.{refinedPolicy, hasAllow}
+use Rattle.rooms.specs.Rooms.{slots, charges, fed, met}
+use Rattle.refined.specs.Finishing.{refinedPolicy, hasAllow}
 use Rattle.refine.specs.Operations.{isRoom, holdsFor, Done, done}
 use Rattle.refine.specs.Operations as O
 

@@ -4,11 +4,11 @@ use mathlib.Core.List.{List, [], _∷_, _++_, append-assoc}
 use Prim.Native.Nat.{ℕ, _+_, _≤_}
 use native.Mathlib.Omega.{arith}
 use lib.ListN.{length, length-append, replicate}
-use Rattle.text.specs.Base.{In, oneOf}
-use Rattle.text.specs.Utf8.{Sequence, Tail, ascii, c2-df, e0, e1-ec, ed, ee-ef, f0, f1-f3, f4}
-use Rattle.text.specs.Strings.{Unit, Short, quote, reverse-solidus, solidus, backspace, form-feed, line-feed}
-use Rattle.text.specs.Strings.{carriage-return, tab, Hex, digit, upper, lower, Char, unescaped, escaped, hexed}
-use Rattle.text.specs.Strings.{Body, end, more}
+use Rattle.chars.specs.Base.{In, oneOf}
+use Rattle.chars.specs.Utf8.{Sequence, Tail, ascii, c2-df, e0, e1-ec, ed, ee-ef, f0, f1-f3, f4}
+use Rattle.chars.specs.Strings.{Unit, Short, quote, reverse-solidus, solidus, backspace, form-feed, line-feed}
+use Rattle.chars.specs.Strings.{carriage-return, tab, Hex, digit, upper, lower, Char, unescaped, escaped, hexed}
+use Rattle.chars.specs.Strings.{Body, end, more}
 use Rattle.text.specs.Machine.{Item, Move, go, range, hex, text, escape, sequence, high, owing, move, run}
 use Rattle.text.proofs.Laws.Eating.{run-takes}
 use Rattle.text.proofs.Laws.Moves.Strings.{char-escape, char-high, char-plain, escape-hex, hex-digit, hex-lower}

@@ -5,7 +5,7 @@ use Prim.Native.Nat.{ℕ, zero, suc, _+_, _≤_}
 use native.Mathlib.Omega.{arith}
 use lib.ListN.{length, getD, drop}
 use lib.Seq.{drop-cons}
-use Rattle.text.specs.Base.{At, oneOf}
+use Rattle.chars.specs.Base.{At, oneOf}
 use Rattle.text.specs.Json.{depth, depths, depthm, Space, zero, Spelt, Quoted, Piece, a-value, elements, rest}
 use Rattle.text.specs.Json.{members, more, Reads, a-null, a-true, a-false, a-number, a-string, empty-list}
 use Rattle.text.specs.Json.{some-list, element, close-list, comma-list, empty-object, some-object, member}

@@ -4,7 +4,7 @@ use mathlib.Core.List.{List, [], _∷_, map}
 use Prim.Native.Nat.{ℕ, _+_, _-_, _≤_, _<_}
 use native.Mathlib.Omega.{arith}
 use lib.ListN.{length, drop}
-use Rattle.text.specs.Base.{part}
+use Rattle.chars.specs.Base.{part}
 use Rattle.text.specs.Json.{Json, Values, Members, null, string, levels, Quoted, a-value, Reads, a-string}
 use Rattle.text.specs.Json.{JsonText}
 use Rattle.text.specs.Machine.{Item, ws, byte, text, value, verdict}

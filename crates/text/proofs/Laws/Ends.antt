@@ -7,7 +7,7 @@ use native.Mathlib.Omega.{arith}
 use native.Mathlib.Decide.{decLt}
 use lib.ListN.{length, drop}
 use lib.Seq.{drop-cons, drop-length}
-use Rattle.text.specs.Base.{At}
+use Rattle.chars.specs.Base.{At}
 use Rattle.text.specs.Json.{Values, Members, White, tab, line-feed, carriage-return, space, Space, no-space}
 use Rattle.text.specs.Json.{white, rest, more, Reads, close-list, comma-list, close-object, comma-object}
 use Rattle.text.specs.Contents.{Ends, with-text, before}

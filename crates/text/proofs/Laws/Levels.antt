@@ -7,7 +7,7 @@ use mathlib.Core.List.{List, [], _∷_, _++_, append-assoc}
 use Prim.Native.Nat.{ℕ, zero, suc, _+_}
 use native.Mathlib.Nat.{zero-add, suc-add}
 use lib.Dec.{eqb}
-use Rattle.text.specs.Base.{pick, within, oneOf}
+use Rattle.chars.specs.Base.{pick, within, oneOf}
 use Rattle.text.specs.Machine.{Item, ws, text, next, Move, pass, bad, deep, go, close, before, inner, letters}
 use Rattle.text.specs.Machine.{high, leads, owing, opens, move-integer, move-exponent, begins, enters, move}
 use Rattle.text.specs.Machine.{optional, onto, feed, ends, after, run, from, verdictAt}

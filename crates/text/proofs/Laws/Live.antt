@@ -6,7 +6,7 @@ use mathlib.Core.Path.{_≡_, refl}
 use mathlib.Core.Bool.{true}
 use mathlib.Core.List.{List, [], _∷_, _++_, map}
 use Prim.Native.Nat.{ℕ, suc, _+_}
-use Rattle.text.specs.Base.{oneOf}
+use Rattle.chars.specs.Base.{oneOf}
 use Rattle.text.specs.Machine.{Item, ws, byte, range, hex, text, escape, digits, digit, integer, fraction}
 use Rattle.text.specs.Machine.{exponent, sign, value, first, next, close, inner, pass, go, begins, move, optional}
 use Rattle.text.specs.Machine.{feed, ends, run}

@@ -6,7 +6,7 @@ use Prim.Native.Nat.{ℕ, _+_}
 use native.Mathlib.Omega.{arith}
 use lib.ListN.{length, length-append}
 use types.Run.{OneOf}
-use Rattle.text.specs.Base.{In}
+use Rattle.chars.specs.Base.{In}
 use Rattle.text.specs.Json.{Digits, no-digit, digit, Digits₁, digits, Int, zero, from-1-9, Frac, no-frac, frac}
 use Rattle.text.specs.Json.{Sign, no-sign, plus, minus, Exp, no-exp, upper, lower, Number, unsigned, negative}
 use Rattle.text.specs.Machine.{Item, go, integer, fraction, exponent, sign, value, move, run}

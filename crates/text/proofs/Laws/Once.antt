@@ -3,7 +3,7 @@ use mathlib.Core.Path.{_≡_, refl, sym, ap, _∙_, subst}
 use mathlib.Core.List.{List, [], _∷_}
 use Prim.Native.Nat.{ℕ, _+_}
 use native.Mathlib.Omega.{arith}
-use Rattle.text.specs.Base.{At, part, oneOf}
+use Rattle.chars.specs.Base.{At, part, oneOf}
 use Rattle.text.specs.Json.{Json, Members, named, Space, Quoted, Piece, a-value, members, more, Reads, a-null}
 use Rattle.text.specs.Json.{a-true, a-false, a-number, a-string, empty-list, some-list, element, close-list}
 use Rattle.text.specs.Json.{comma-list, empty-object, some-object, member, close-object, comma-object, JsonText}

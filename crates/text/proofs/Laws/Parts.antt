@@ -5,7 +5,7 @@ use Prim.Native.Nat.{ℕ, _+_, _-_, _≤_, _<_}
 use native.Mathlib.Omega.{arith}
 use lib.ListN.{length, getD, take, drop, length-drop, take-append-drop}
 use lib.Seq.{drop-cons, drop-drop, take-add, length-take-le}
-use Rattle.text.specs.Base.{At, part}
+use Rattle.chars.specs.Base.{At, part}
 use Rattle.text.specs.Json.{Spelt}
 
 -- the bytes from a place on are the part and then those from its end on

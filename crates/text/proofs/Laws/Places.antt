@@ -7,7 +7,7 @@ use native.Mathlib.Omega.{arith}
 use native.Mathlib.Decide.{decLt}
 use lib.Dec.{eqb}
 use lib.ListN.{length, getD, drop}
-use Rattle.text.specs.Base.{pick}
+use Rattle.chars.specs.Base.{pick}
 use Rattle.text.specs.Machine.{Item, Move, pass, bad, deep, go, byte, range, text, char, move, optional, owing}
 use Rattle.text.specs.Machine.{feed, ends, after, run, from, value}
 use Rattle.text.specs.Reading.{Leads, Done, Falls, Fault}

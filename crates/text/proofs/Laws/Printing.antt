@@ -11,15 +11,15 @@ use Prim.Native.Nat.{ℕ, _+_, _-_, _≤_}
 use native.Mathlib.Omega.{arith}
 use lib.ListN.{length, take, drop, length-append}
 use lib.Seq.{drop-drop, take-at, drop-at, take-all}
-use Rattle.text.specs.Base.{At}
-use Rattle.text.specs.Strings.{Unit, Body}
+use Rattle.chars.specs.Base.{At}
+use Rattle.chars.specs.Strings.{Unit, Body}
 use Rattle.text.specs.Json.{Json, Values, Members, string, list, object, no-more, no-members, named, depth}
 use Rattle.text.specs.Json.{levels, Space, no-space, Spelt, Quoted, Piece, a-value, elements, rest, members, more}
 use Rattle.text.specs.Json.{Reads, a-null, a-true, a-false, a-number, a-string, empty-list, some-list, element}
 use Rattle.text.specs.Json.{close-list, comma-list, empty-object, some-object, member, close-object, comma-object}
 use Rattle.text.specs.Json.{JsonText}
 use Rattle.text.specs.Machine.{verdict}
-use Rattle.text.specs.Written.{Scalars, writtenText}
+use Rattle.chars.specs.Written.{Scalars, writtenText}
 use Rattle.text.specs.Printing.{quoted, printed, printedElements, printedRest, printedMembers, printedMore, Sound}
 use Rattle.text.specs.Printing.{sound-null, sound-bool, sound-number, sound-string, sound-list, sound-object}
 use Rattle.text.specs.Printing.{SoundValues, sound-no-more, sound-also, SoundMembers, sound-no-members}
@@ -28,7 +28,7 @@ use Rattle.text.specs.declared.scan.Verdict.the-variants.{Whole}
 use Rattle.text.proofs.Laws.Parts.{spelt-drop, spelt-length, spelt-first}
 use Rattle.text.proofs.Laws.Meaning.{verdict-unique}
 use Rattle.text.proofs.Laws.Contents.{contents, contents-is}
-use Rattle.text.proofs.Laws.Written.{text-tells}
+use Rattle.chars.proofs.Laws.Written.{text-tells}
 
 -- ---- spelt bytes, taken apart
 

@@ -7,7 +7,7 @@ use native.Mathlib.Numerals.{add-one, sub-one}
 use native.Mathlib.Omega.{arith}
 use lib.ListN.{length, drop, getD, replicate}
 use lib.Seq.{drop-cons, drop-length}
-use Rattle.text.specs.Base.{pick, At}
+use Rattle.chars.specs.Base.{pick, At}
 use Rattle.text.specs.Machine.{Item, pass, bad, deep, go, byte, move, optional, feed, ends, after, run, from}
 use Rattle.text.specs.Reading.{Leads, Done, Falls, Goes}
 use Rattle.text.specs.declared.scan.Verdict.{Verdict}

@@ -4,7 +4,7 @@ use mathlib.Core.List.{List, [], _∷_}
 use Prim.Native.Nat.{ℕ, _≤_}
 use native.Mathlib.Omega.{arith}
 use lib.ListN.{length, getD}
-use Rattle.text.specs.Base.{At, oneOf}
+use Rattle.chars.specs.Base.{At, oneOf}
 use Rattle.text.specs.Json.{White, tab, line-feed, carriage-return, space, Space, no-space, white}
 use Rattle.text.specs.Machine.{pass, go, ws, move, optional}
 use Rattle.text.specs.Reading.{Done}

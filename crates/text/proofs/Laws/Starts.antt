@@ -4,7 +4,7 @@ use mathlib.Core.List.{List}
 use mathlib.Core.Logic.{⊎-elim}
 use Prim.Native.Nat.{ℕ, zero, _≤_}
 use native.Mathlib.Omega.{arith}
-use Rattle.text.specs.Base.{At, oneOf}
+use Rattle.chars.specs.Base.{At, oneOf}
 use Rattle.text.specs.Json.{Json, Values, Members, zero, from-1-9, Number, unsigned, negative, Spelt, a-value}
 use Rattle.text.specs.Json.{elements, members, Reads, a-null, a-true, a-false, a-number, a-string, empty-list}
 use Rattle.text.specs.Json.{some-list, element, empty-object, some-object, member}

@@ -3,8 +3,8 @@ use mathlib.Core.Path.{_≡_, _∙_, ap, sym}
 use mathlib.Core.List.{List}
 use Prim.Native.Nat.{ℕ}
 use lib.ListN.{length}
-use Rattle.text.specs.Decoding.{Decodes, textOf, decodedOf}
-use Rattle.text.specs.declared.strings.Decoded.{Decoded}
+use Rattle.chars.specs.Decoding.{Decodes, textOf, decodedOf}
+use Rattle.chars.specs.declared.strings.Decoded.{Decoded}
 use Rattle.text_probe.specs.declared.Answer.{Answer}
 use Rattle.text_probe.specs.Numbers.{ofDecoded, decoding}
 use borrow.Author.Needs.{needs}

@@ -2,7 +2,7 @@
 use mathlib.Core.Path.{_≡_, _∙_, ap, sym}
 use mathlib.Core.List.{List}
 use Prim.Native.Nat.{ℕ}
-use Rattle.text.specs.declared.written.Written.{Written}
+use Rattle.chars.specs.declared.written.Written.{Written}
 use Rattle.text_probe.specs.declared.Answer.{Answer}
 use Rattle.text_probe.specs.Numbers.{ofWritten}
 use borrow.Author.Needs.{needs}

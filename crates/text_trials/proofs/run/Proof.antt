@@ -3,7 +3,7 @@ use mathlib.Core.Path.{sym, _∙_}
 use Prim.Native.Nat.{_-_}
 use native.Mathlib.Omega.{arith}
 use lib.ListN.{length}
-use Rattle.text.proofs.Laws.Lines.{line-ahead}
+use Rattle.chars.proofs.Laws.Lines.{line-ahead}
 use borrow.Author.Needs.{needs}
 use Rattle.text_trials.proofs.run.Statement.{statement}
 use Rattle.text_trials.proofs.run.Tie as tie

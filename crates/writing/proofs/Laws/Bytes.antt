@@ -12,16 +12,16 @@ use native.Mathlib.Omega.{arith}
 use native.Mathlib.Decide.{decLt}
 use lib.Dec.{eqb, ltb}
 use borrow.Author.Tests.{ne-eqb, le-leb, le-ltb, lt-ltb}
-use Rattle.text.specs.Base.{pick}
+use Rattle.chars.specs.Base.{pick}
 use Rattle.text.specs.Json.{Json, string, Values, no-more, also, Members, no-members, named}
-use Rattle.text.specs.Written.{written, writtenText}
+use Rattle.chars.specs.Written.{written, writtenText}
 use Rattle.text.specs.Printing.{quoted, printed, printedElements, printedRest, printedMembers, printedMore}
-use Rattle.text.proofs.Laws.Written.Runs.{text-append}
-use Rattle.policy.specs.Policy.{Effect, Allow, Deny, Operator, StringEquals, StringLike, NumericLessThanEquals}
-use Rattle.policy.specs.Policy.{Value, text, number, Row, Statement, Policy}
-use Rattle.policy.specs.Held.{effectNumber, operatorNumber}
-use Rattle.policy.specs.Words.{versionWord, editionWord, statementWord, conditionWord}
-use Rattle.policy.specs.PolicyLayout.{sameOperator, Group}
+use Rattle.chars.proofs.Laws.Written.Runs.{text-append}
+use Rattle.syntax.specs.Policy.{Effect, Allow, Deny, Operator, StringEquals, StringLike, NumericLessThanEquals}
+use Rattle.syntax.specs.Policy.{Value, text, number, Row, Statement, Policy}
+use Rattle.held.specs.Held.{effectNumber, operatorNumber}
+use Rattle.syntax.specs.Words.{versionWord, editionWord, statementWord, conditionWord}
+use Rattle.syntax.specs.PolicyLayout.{sameOperator, Group}
 use Rattle.writing.specs.WrittenForm.{digitsUpTo, digitsOf, valuesOf, listOf, actionTree, resourceTree, valueTree}
 use Rattle.writing.specs.WrittenForm.{joining, grouped, rowsTree, operatorWord, groupsTree, conditionMember}
 use Rattle.writing.specs.WrittenForm.{statementTree, treeOf, writtenPolicy}

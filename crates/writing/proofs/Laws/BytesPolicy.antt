@@ -3,11 +3,11 @@ use mathlib.Core.Path.{_≡_, refl, sym, ap, _∙_}
 use mathlib.Core.List.{List, [], _∷_, _++_, map, append-assoc}
 use Prim.Native.Nat.{ℕ}
 use Rattle.text.specs.Json.{Members, named, string}
-use Rattle.text.specs.Written.{writtenText}
+use Rattle.chars.specs.Written.{writtenText}
 use Rattle.text.specs.Printing.{quoted, printed, printedMembers, printedMore}
-use Rattle.policy.specs.Policy.{Effect, Allow, Deny, text, Row, Statement, Policy}
-use Rattle.policy.specs.Held.{effectNumber}
-use Rattle.policy.specs.Words.{versionWord, editionWord, statementWord, sidWord, effectWord, actionWord, resourceWord}
+use Rattle.syntax.specs.Policy.{Effect, Allow, Deny, text, Row, Statement, Policy}
+use Rattle.held.specs.Held.{effectNumber}
+use Rattle.syntax.specs.Words.{versionWord, editionWord, statementWord, sidWord, effectWord, actionWord, resourceWord}
 use Rattle.writing.specs.WrittenForm.{listOf, actionTree, resourceTree, effectName, sidMember, conditionMember}
 use Rattle.writing.specs.WrittenForm.{statementTree, treeOf, writtenPolicy}
 use Rattle.writing.specs.Bytes.{name, listed, listBytes, conditionBytes, sidBytes, effectBytes, statementBytes}

@@ -4,14 +4,14 @@ use mathlib.Core.Bool.{Bool, true, false}
 use mathlib.Core.List.{List, [], _∷_, _++_, append-assoc}
 use Prim.Native.Nat.{ℕ}
 use lib.Dec.{eqb}
-use Rattle.text.specs.Base.{pick}
+use Rattle.chars.specs.Base.{pick}
 use Rattle.text.specs.Json.{Json, Members}
-use Rattle.text.specs.Written.{writtenText}
+use Rattle.chars.specs.Written.{writtenText}
 use Rattle.text.specs.Printing.{quoted, printed, printedMembers, printedMore}
-use Rattle.policy.specs.Policy.{Operator, StringEquals, StringLike, NumericLessThanEquals, Row}
-use Rattle.policy.specs.Held.{operatorNumber}
-use Rattle.policy.specs.Words.{conditionWord}
-use Rattle.policy.specs.PolicyLayout.{sameOperator, Group}
+use Rattle.syntax.specs.Policy.{Operator, StringEquals, StringLike, NumericLessThanEquals, Row}
+use Rattle.held.specs.Held.{operatorNumber}
+use Rattle.syntax.specs.Words.{conditionWord}
+use Rattle.syntax.specs.PolicyLayout.{sameOperator, Group}
 use Rattle.writing.specs.WrittenForm.{listOf, valueTree, joining, grouped, rowsTree, operatorWord, groupsTree}
 use Rattle.writing.specs.WrittenForm.{conditionMember}
 use Rattle.writing.specs.Bytes.{name, listBytes, operatorName, ending, turning, rowBytes, rowsFrom}

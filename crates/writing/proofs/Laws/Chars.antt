@@ -7,8 +7,8 @@ use native.Mathlib.Omega.{arith}
 use lib.Dec.{eqb, leb, ltb}
 use lib.ListN.{length, length-append}
 use borrow.Author.Tests.{eq-eqb, ne-eqb}
-use Rattle.text.specs.Base.{pick, oneOf}
-use Rattle.text.specs.Written.{coded, written}
+use Rattle.chars.specs.Base.{pick, oneOf}
+use Rattle.chars.specs.Written.{coded, written}
 use Rattle.writing.specs.WrittenForm.{isEscaped}
 use Rattle.writing.specs.Showing.{Adds}
 use Rattle.writing.specs.Bytes.{between}

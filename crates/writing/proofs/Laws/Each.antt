@@ -8,10 +8,10 @@ use Prim.Native.Nat.{ℕ, _+_, _≤_, _<_}
 use native.Mathlib.Numerals.{add-one}
 use lib.ListN.{length, getD, take}
 use lib.Seq.{take-all, take-suc}
-use Rattle.text.specs.Written.{written, writtenText}
-use Rattle.text.proofs.Laws.Written.Runs.{text-append}
-use Rattle.policy.specs.Held.{heldEach}
-use Rattle.policy.proofs.Laws.Sofar.{held-snoc}
+use Rattle.chars.specs.Written.{written, writtenText}
+use Rattle.chars.proofs.Laws.Written.Runs.{text-append}
+use Rattle.held.specs.Held.{heldEach}
+use Rattle.parts.proofs.Laws.Sofar.{held-snoc}
 use Rattle.writing.specs.WrittenForm.{bare, spelling, spelled}
 use Rattle.writing.specs.Showing.{Adds}
 use Rattle.writing.proofs.Laws.Showing.{adds-none, adds-then, adds-as}

@@ -8,9 +8,9 @@ use native.Mathlib.Omega.{arith}
 use lib.ListN.{length, getD, set, take}
 use lib.Seq.{take-suc, length-take-le}
 use borrow.Author.Tests.{lt-ltb, le-ltb}
-use Rattle.text.specs.Putting.{lay}
-use Rattle.text.proofs.Laws.Putting.{lay-length, lay-snoc}
-use Rattle.policy.specs.Limits.{resultBytes}
+use Rattle.chars.specs.Putting.{lay}
+use Rattle.chars.proofs.Laws.Putting.{lay-length, lay-snoc}
+use Rattle.syntax.specs.Limits.{resultBytes}
 use Rattle.policy.specs.Reading.{Outcome, refused, known}
 use Rattle.policy.specs.declared.refusals.Refusal.the-variants.{ResultLength, OutputLength}
 use Rattle.writing.specs.Showing.{Shows, Adds}

@@ -9,13 +9,13 @@ use native.Mathlib.Omega.{arith}
 use lib.Dec.{eqb}
 use lib.ListN.{length, getD}
 use borrow.Author.Tests.{eq-eqb, ne-eqb}
-use Rattle.text.specs.Written.{writtenText}
-use Rattle.policy.specs.Policy.{Value, text, number, Row, Policy}
-use Rattle.policy.specs.Words.{conditionWord}
-use Rattle.policy.specs.Held.{heldNumber, heldValue, heldList, heldRow, heldStatement, held, operatorNumber, mark}
-use Rattle.policy.specs.Lying.{Lies, Lying}
-use Rattle.policy.proofs.Laws.Runs.{lies-first, lies-short}
-use Rattle.policy.proofs.Laws.Places.{textFrom, texted}
+use Rattle.chars.specs.Written.{writtenText}
+use Rattle.syntax.specs.Policy.{Value, text, number, Row, Policy}
+use Rattle.syntax.specs.Words.{conditionWord}
+use Rattle.held.specs.Held.{heldNumber, heldValue, heldList, heldRow, heldStatement, held, operatorNumber, mark}
+use Rattle.held.specs.Lying.{Lies, Lying}
+use Rattle.held.proofs.Laws.Runs.{lies-first, lies-short}
+use Rattle.held.proofs.Laws.Places.{textFrom, texted}
 use Rattle.writing.specs.WrittenForm.{bare, spelled, digitsOf}
 use Rattle.writing.specs.Showing.{Adds}
 use Rattle.writing.specs.Bytes.{name, between, listed, entryBody, turning, rowBytes, rowsFrom}

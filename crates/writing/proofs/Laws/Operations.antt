@@ -8,15 +8,15 @@ use native.Mathlib.Decide.{decLt}
 use lib.Dec.{ltb}
 use lib.ListN.{length, take}
 use borrow.Author.Tests.{le-ltb}
-use Rattle.text.specs.Base.{pick}
+use Rattle.chars.specs.Base.{pick}
 use Rattle.text.specs.Json.{Json, JsonText}
-use Rattle.text.specs.Putting.{lay}
+use Rattle.chars.specs.Putting.{lay}
 use Rattle.text.proofs.Laws.Printing.{says-sound}
-use Rattle.policy.specs.Limits.{policyBytes, resultBytes}
-use Rattle.policy.specs.Policy.{Policy, Request}
-use Rattle.policy.specs.Forms.{Reading, wrong, read}
-use Rattle.policy.specs.PolicyLayout.{policyOf}
-use Rattle.policy.specs.Held.{overLimit}
+use Rattle.syntax.specs.Limits.{policyBytes, resultBytes}
+use Rattle.syntax.specs.Policy.{Policy, Request}
+use Rattle.syntax.specs.Forms.{Reading, wrong, read}
+use Rattle.syntax.specs.PolicyLayout.{policyOf}
+use Rattle.held.specs.Held.{overLimit}
 use Rattle.policy.specs.Reading.{Outcome, refused, known, policyComes, policyRules, recordRules, Says, long, broken}
 use Rattle.policy.specs.Reading.{deep, text}
 use Rattle.policy.specs.declared.refusals.Refusal.{Refusal}

@@ -7,12 +7,12 @@ use native.Mathlib.Nat.{mod-lt}
 use native.Mathlib.Omega.{arith}
 use lib.ListN.{length, getD}
 use borrow.Author.Tests.{eq-eqb, ne-eqb, lt-ltb, le-ltb}
-use Rattle.text.specs.Written.{written, writtenText}
+use Rattle.chars.specs.Written.{written, writtenText}
 use Rattle.text.specs.Printing.{quoted}
-use Rattle.policy.specs.Policy.{Statement}
-use Rattle.policy.specs.Held.{effectNumber}
-use Rattle.policy.specs.Words.{sidWord, effectWord, actionWord, allowWord, denyWord}
-use Rattle.policy.specs.Words.{stringEqualsWord, stringLikeWord, numericLessThanEqualsWord}
+use Rattle.syntax.specs.Policy.{Statement}
+use Rattle.held.specs.Held.{effectNumber}
+use Rattle.syntax.specs.Words.{sidWord, effectWord, actionWord, allowWord, denyWord}
+use Rattle.syntax.specs.Words.{stringEqualsWord, stringLikeWord, numericLessThanEqualsWord}
 use Rattle.writing.specs.WrittenForm.{bare, isEscaped, spelling, digitsUpTo}
 use Rattle.writing.specs.Showing.{Adds}
 use Rattle.writing.specs.Bytes.{name, operatorName, ending, turning, sidBytes, effectBytes, headBytes}

@@ -10,9 +10,9 @@ use native.Mathlib.Omega.{arith}
 use native.Mathlib.Decide.{decLt}
 use lib.ListN.{length, set, take, drop, length-append, length-set}
 use lib.Seq.{sets, sets-eq, length-sets, set-append-seam, take-append-seam, drop-append-add}
-use Rattle.text.specs.Putting.{putAt}
-use Rattle.text.proofs.Laws.Putting.{put-fit, put-none}
-use Rattle.policy.specs.Limits.{resultBytes}
+use Rattle.chars.specs.Putting.{putAt}
+use Rattle.chars.proofs.Laws.Putting.{put-fit, put-none}
+use Rattle.syntax.specs.Limits.{resultBytes}
 use Rattle.writing.specs.Showing.{Shows, whole, over, Adds}
 
 pub shows-none : (out : List ℕ) → length out ≡ resultBytes → Shows [] 0 out

@@ -6,10 +6,10 @@ use mathlib.Core.List.{List, [], _∷_, _++_, append-nil, append-assoc}
 use Prim.Native.Nat.{ℕ, _+_, _≤_, _<_}
 use native.Mathlib.Omega.{arith}
 use lib.ListN.{length, getD}
-use Rattle.policy.specs.Held.{heldEach, heldList}
-use Rattle.policy.specs.Lying.{Lies, Lying}
-use Rattle.policy.proofs.Laws.Runs.{lies-first, lies-next}
-use Rattle.policy.proofs.Laws.Coming.{Coming, coming-now, coming-end}
+use Rattle.held.specs.Held.{heldEach, heldList}
+use Rattle.held.specs.Lying.{Lies, Lying}
+use Rattle.held.proofs.Laws.Runs.{lies-first, lies-next}
+use Rattle.held.proofs.Laws.Coming.{Coming, coming-now, coming-end}
 use Rattle.writing.specs.Showing.{Adds}
 use Rattle.writing.proofs.Laws.Showing.{adds-none, adds-then, adds-as}
 

@@ -9,16 +9,16 @@ use mathlib.Core.List.{List, [], _∷_}
 use Prim.Native.Nat.{ℕ}
 use native.Mathlib.Omega.{arith}
 use Rattle.text.specs.Json.{Json, string, Members, no-members, named}
-use Rattle.text.specs.Decoding.{readOf, sequenceOf, unitsBehind, meaning, textOf, equal, sameText}
+use Rattle.chars.specs.Decoding.{readOf, sequenceOf, unitsBehind, meaning, textOf, equal, sameText}
 use Rattle.text.specs.Machine.{verdict}
 use Rattle.text.specs.declared.scan.Verdict.the-variants.{Whole}
 use Rattle.text.proofs.Laws.Contents.{contents}
 use Rattle.text.proofs.Laws.Printing.{printed-whole, printed-contents}
-use Rattle.policy.specs.Policy.{Policy}
-use Rattle.policy.specs.Forms.{read}
-use Rattle.policy.specs.Words.{versionWord, statementWord, editionWord}
-use Rattle.policy.specs.Members.{isWord, one, slot, isAmong, known}
-use Rattle.policy.specs.PolicyLayout.{statementOf, policyIn, policyOf}
+use Rattle.syntax.specs.Policy.{Policy}
+use Rattle.syntax.specs.Forms.{read}
+use Rattle.syntax.specs.Words.{versionWord, statementWord, editionWord}
+use Rattle.syntax.specs.Members.{isWord, one, slot, isAmong, known}
+use Rattle.syntax.specs.PolicyLayout.{statementOf, policyIn, policyOf}
 use Rattle.writing.specs.WrittenForm.{listOf, statementTree, treeOf, writtenPolicy}
 use Rattle.writing.specs.Valid.{ValidStatement, Valid}
 use Rattle.writing.proofs.Laws.TreeEntries.{list-tree}

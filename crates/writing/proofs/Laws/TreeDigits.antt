@@ -6,13 +6,13 @@ use native.Mathlib.Omega.{arith}
 use native.Mathlib.Decide.{decLt, ℕ-discrete}
 use lib.ListN.{length, getD, length-append, List·getD-append}
 use borrow.Author.Tests.{le-leb, lt-ltb, le-ltb}
-use Rattle.text.proofs.Laws.Tests.{inside}
-use Rattle.text.specs.Written.{Scalars}
-use Rattle.text.specs.Written as W
-use Rattle.policy.specs.Limits.{greatest}
-use Rattle.policy.specs.Forms.{read, digitsFrom, numberIn}
+use Rattle.chars.proofs.Laws.Tests.{inside}
+use Rattle.chars.specs.Written.{Scalars}
+use Rattle.chars.specs.Written as W
+use Rattle.syntax.specs.Limits.{greatest}
+use Rattle.syntax.specs.Forms.{read, digitsFrom, numberIn}
 use Rattle.writing.specs.WrittenForm.{digitsUpTo, digitsOf}
-use Rattle.policy.proofs.Laws.Numbers.{counted-start}
+use Rattle.syntax.proofs.Laws.Numbers.{counted-start}
 use Rattle.writing.proofs.Laws.TreeSpelling.{ascii}
 
 -- one digit more

@@ -6,11 +6,11 @@ use mathlib.Core.Bool.{true, false}
 use mathlib.Core.List.{List, map}
 use Prim.Native.Nat.{ℕ}
 use Rattle.text.specs.Json.{Json}
-use Rattle.text.specs.Written.{Scalars}
-use Rattle.policy.specs.Policy.{Operator, Value}
-use Rattle.policy.specs.Forms.{Reading, read, isAction, wildcard, isSid}
-use Rattle.policy.specs.Members.{cons, each, some, oneOrMore}
-use Rattle.policy.specs.PolicyLayout.{actionOf, resourceOf, numberOfJson, valueOf, sidOf}
+use Rattle.chars.specs.Written.{Scalars}
+use Rattle.syntax.specs.Policy.{Operator, Value}
+use Rattle.syntax.specs.Forms.{Reading, read, isAction, wildcard, isSid}
+use Rattle.syntax.specs.Members.{cons, each, some, oneOrMore}
+use Rattle.syntax.specs.PolicyLayout.{actionOf, resourceOf, numberOfJson, valueOf, sidOf}
 use Rattle.writing.specs.WrittenForm.{bare, stringOf, valuesOf, listOf, actionTree, resourceTree, valueTree}
 use Rattle.writing.specs.Valid.{Each, none, more, Some, first, ValidAction, ValidResource, ValidValue, equals}
 use Rattle.writing.specs.Valid.{like, at-most}

@@ -9,16 +9,16 @@ use native.Mathlib.Decide.{decLt}
 use lib.Dec.{eqb, leb, ltb}
 use lib.ListN.{length}
 use borrow.Author.Tests.{ne-eqb, eqb-true}
-use Rattle.text.specs.Base.{pick, oneOf}
-use Rattle.text.specs.Written.{Scalars}
-use Rattle.text.specs.Written as W
-use Rattle.text.proofs.Laws.Tests.{over}
-use Rattle.policy.specs.Limits.{sidCharacters}
-use Rattle.policy.specs.Forms.{both, either, all, same, isAlphanumeric, isVendorChar, isNameChar, isName}
-use Rattle.policy.specs.Forms.{isVendorTail, isVendor, isAction, isSid, isKeyChar, isKey}
-use Rattle.policy.proofs.Laws.Characters.{alphanumeric-none, vendor-rest, name-rest, key-rest}
-use Rattle.policy.proofs.Laws.Slots.{true-false, both-true}
-use Rattle.policy.proofs.Laws.Same.{same-sound}
+use Rattle.chars.specs.Base.{pick, oneOf}
+use Rattle.chars.specs.Written.{Scalars}
+use Rattle.chars.specs.Written as W
+use Rattle.chars.proofs.Laws.Tests.{over}
+use Rattle.syntax.specs.Limits.{sidCharacters}
+use Rattle.syntax.specs.Forms.{both, either, all, same, isAlphanumeric, isVendorChar, isNameChar, isName}
+use Rattle.syntax.specs.Forms.{isVendorTail, isVendor, isAction, isSid, isKeyChar, isKey}
+use Rattle.syntax.proofs.Laws.Characters.{alphanumeric-none, vendor-rest, name-rest, key-rest}
+use Rattle.parts.proofs.Laws.Slots.{true-false, both-true}
+use Rattle.syntax.proofs.Laws.Same.{same-sound}
 use Rattle.writing.proofs.Laws.TreeSpelling.{ascii}
 
 -- ---- one character

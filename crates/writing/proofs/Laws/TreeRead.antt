@@ -9,27 +9,27 @@ use native.Mathlib.Omega.{arith}
 use native.Mathlib.Decide.{ℕ-discrete}
 use lib.Dec.{eqb}
 use lib.ListN.{getD}
-use Rattle.text.specs.Base.{pick, oneOf}
+use Rattle.chars.specs.Base.{pick, oneOf}
 use Rattle.text.specs.Json.{Json, null, bool, number, string, list, object, Values, Members, named}
-use Rattle.text.specs.Strings.{Unit, Body}
-use Rattle.text.specs.Decoding.{Text, textOf}
-use Rattle.text.specs.Written.{Scalar, Scalars}
-use Rattle.text.specs.Written as W
+use Rattle.chars.specs.Strings.{Unit, Body}
+use Rattle.chars.specs.Decoding.{Text, textOf}
+use Rattle.chars.specs.Written.{Scalar, Scalars}
+use Rattle.chars.specs.Written as W
 use Rattle.text.specs.Printing.{Sound, sound-null, sound-bool, sound-number, sound-string, sound-list, sound-object}
 use Rattle.text.specs.Printing.{SoundValues, sound-no-more, sound-also, SoundMembers, sound-no-members, sound-named}
-use Rattle.text.proofs.Laws.Strings.{said, text-sound, means-scalar}
-use Rattle.policy.specs.Limits.{greatest}
-use Rattle.policy.specs.Policy.{Operator, StringEquals, StringLike, NumericLessThanEquals, Value, text}
-use Rattle.policy.specs.Policy as P
-use Rattle.policy.specs.Forms.{Reading, wrong, read, both, isAction, wildcard, isResource, isSid, symbol, ahead}
-use Rattle.policy.specs.Forms.{symbolsBehind, symbolsOf, numberIn}
-use Rattle.policy.specs.Members.{then, only, characters, charactersOf, cons, each, some, oneOrMore, members}
-use Rattle.policy.specs.PolicyLayout.{actionOf, resourceOf, asText, asNumber, numberOfJson, valueOf, sidOf}
+use Rattle.chars.proofs.Laws.Strings.{said, text-sound, means-scalar}
+use Rattle.syntax.specs.Limits.{greatest}
+use Rattle.syntax.specs.Policy.{Operator, StringEquals, StringLike, NumericLessThanEquals, Value, text}
+use Rattle.syntax.specs.Policy as P
+use Rattle.syntax.specs.Forms.{Reading, wrong, read, both, isAction, wildcard, isResource, isSid, symbol, ahead}
+use Rattle.syntax.specs.Forms.{symbolsBehind, symbolsOf, numberIn}
+use Rattle.syntax.specs.Members.{then, only, characters, charactersOf, cons, each, some, oneOrMore, members}
+use Rattle.syntax.specs.PolicyLayout.{actionOf, resourceOf, asText, asNumber, numberOfJson, valueOf, sidOf}
 use Rattle.writing.specs.Valid.{Each, none, more, Some, first, Symbol, plain, run, one, Symbols, ValidAction}
 use Rattle.writing.specs.Valid.{ValidResource, ValidValue, equals, like, at-most}
-use Rattle.policy.proofs.Laws.Characters.{wildcard-none}
-use Rattle.policy.proofs.Laws.Numbers.{number-small}
-use Rattle.policy.proofs.Laws.Fits.{wrong-read, then-inv, only-inv, cons-inv}
+use Rattle.syntax.proofs.Laws.Characters.{wildcard-none}
+use Rattle.syntax.proofs.Laws.Numbers.{number-small}
+use Rattle.parts.proofs.Laws.Fits.{wrong-read, then-inv, only-inv, cons-inv}
 use Rattle.writing.proofs.Laws.TreeSpelling.{ascii}
 
 pub only-test : {A : Type 0} (t : Bool) (x : A) {y : A} → only t x ≡ read y → t ≡ true

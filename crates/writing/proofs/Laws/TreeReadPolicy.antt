@@ -6,27 +6,27 @@ use mathlib.Core.Path.{_≡_, refl, subst}
 use mathlib.Core.Bool.{Bool, true, false}
 use mathlib.Core.List.{List, [], _∷_}
 use Prim.Native.Nat.{ℕ}
-use Rattle.text.specs.Base.{pick}
+use Rattle.chars.specs.Base.{pick}
 use Rattle.text.specs.Json.{Json, Members}
-use Rattle.text.specs.Decoding.{textOf, sameText}
+use Rattle.chars.specs.Decoding.{textOf, sameText}
 use Rattle.text.specs.Printing.{Sound, sound-null, sound-bool, sound-number, sound-string, sound-list, sound-object}
 use Rattle.text.specs.Printing.{SoundMembers, sound-no-members, sound-named}
 use Rattle.text.specs.Machine.{verdict}
 use Rattle.text.specs.declared.scan.Verdict.the-variants.{Whole}
 use Rattle.text.proofs.Laws.Contents.{contents, contents-says}
 use Rattle.text.proofs.Laws.Printing.{says-sound}
-use Rattle.policy.specs.Policy.{Statement, Policy}
-use Rattle.policy.specs.Forms.{Reading, read}
-use Rattle.policy.specs.Words.{versionWord, statementWord, editionWord, sidWord, effectWord, actionWord}
-use Rattle.policy.specs.Words.{resourceWord, conditionWord}
-use Rattle.policy.specs.Members.{then, only, isWord, Slot, none, many, one, again, slot, known, required}
-use Rattle.policy.specs.Members.{optional, oneOrMore, differ, differing}
-use Rattle.policy.specs.PolicyLayout.{actionOf, resourceOf, conditionOf, effectOf, sidOf, statementIn}
-use Rattle.policy.specs.PolicyLayout.{statementOf, sameSid, policyIn, policyOf}
+use Rattle.syntax.specs.Policy.{Statement, Policy}
+use Rattle.syntax.specs.Forms.{Reading, read}
+use Rattle.syntax.specs.Words.{versionWord, statementWord, editionWord, sidWord, effectWord, actionWord}
+use Rattle.syntax.specs.Words.{resourceWord, conditionWord}
+use Rattle.syntax.specs.Members.{then, only, isWord, Slot, none, many, one, again, slot, known, required}
+use Rattle.syntax.specs.Members.{optional, oneOrMore, differ, differing}
+use Rattle.syntax.specs.PolicyLayout.{actionOf, resourceOf, conditionOf, effectOf, sidOf, statementIn}
+use Rattle.syntax.specs.PolicyLayout.{statementOf, sameSid, policyIn, policyOf}
 use Rattle.writing.specs.WrittenForm.{grouped, writtenPolicy}
 use Rattle.writing.specs.Valid.{Some, ValidAction, ValidResource, ValidRows, ValidSid, ValidStatement, Valid}
 use Rattle.writing.specs.Valid as L
-use Rattle.policy.proofs.Laws.Fits.{wrong-read, then-inv, only-inv, pick-inv}
+use Rattle.parts.proofs.Laws.Fits.{wrong-read, then-inv, only-inv, pick-inv}
 use Rattle.policy.proofs.Laws.FitsPolicy.{parts-inv}
 use Rattle.writing.proofs.Laws.TreeRead.{only-test, sid-valid, action-valid, resource-valid, several-valid}
 use Rattle.writing.proofs.Laws.TreeReadRows.{condition-valid}

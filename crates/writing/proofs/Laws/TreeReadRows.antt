@@ -5,18 +5,18 @@ use mathlib.Core.Bool.{Bool, true, false, not}
 use mathlib.Core.List.{List, [], _∷_, _++_}
 use Prim.Native.Nat.{ℕ}
 use Rattle.text.specs.Json.{Json, named}
-use Rattle.text.specs.Strings.{Unit as Part, Body}
+use Rattle.chars.specs.Strings.{Unit as Part, Body}
 use Rattle.text.specs.Printing.{Sound, sound-null, sound-bool, sound-number, sound-string, sound-list, sound-object}
 use Rattle.text.specs.Printing.{sound-no-members, sound-named}
-use Rattle.policy.specs.Policy.{Operator, StringEquals, StringLike, NumericLessThanEquals, Row}
-use Rattle.policy.specs.Forms.{read, either, isKey}
-use Rattle.policy.specs.Members.{then, only, characters, oneOrMore, members, hasLike, differ, differing}
-use Rattle.policy.specs.PolicyLayout.{valueOf, keyOf, rowOf, sameRow, rowsOf, operatorOf, sameOperator, Group}
-use Rattle.policy.specs.PolicyLayout.{sameGroup, groupOf, rowsIn, operatorsIn, conditionOf}
+use Rattle.syntax.specs.Policy.{Operator, StringEquals, StringLike, NumericLessThanEquals, Row}
+use Rattle.syntax.specs.Forms.{read, either, isKey}
+use Rattle.syntax.specs.Members.{then, only, characters, oneOrMore, members, hasLike, differ, differing}
+use Rattle.syntax.specs.PolicyLayout.{valueOf, keyOf, rowOf, sameRow, rowsOf, operatorOf, sameOperator, Group}
+use Rattle.syntax.specs.PolicyLayout.{sameGroup, groupOf, rowsIn, operatorsIn, conditionOf}
 use Rattle.writing.specs.WrittenForm.{joining, grouped}
 use Rattle.writing.specs.Valid.{Each, none, more, Some, first, ValidValue, ValidRow, ValidRows}
-use Rattle.policy.proofs.Laws.Slots.{true-false, both-true}
-use Rattle.policy.proofs.Laws.Fits.{wrong-read, then-inv, only-inv}
+use Rattle.parts.proofs.Laws.Slots.{true-false, both-true}
+use Rattle.parts.proofs.Laws.Fits.{wrong-read, then-inv, only-inv}
 use Rattle.writing.proofs.Laws.TreeRead.{only-test, value-valid, several-valid, members-valid}
 use Rattle.writing.proofs.Laws.TreeRows.{InRun, ValidGroup, each-some}
 

@@ -7,15 +7,15 @@ use mathlib.Core.Bool.{Bool, true, false}
 use mathlib.Core.List.{List, [], _∷_}
 use Prim.Native.Nat.{ℕ}
 use native.Mathlib.Omega.{arith}
-use Rattle.text.specs.Base.{pick}
+use Rattle.chars.specs.Base.{pick}
 use Rattle.text.specs.Json.{object}
-use Rattle.text.specs.Written.{writtenText}
-use Rattle.text.specs.Decoding.{readOf, sequenceOf, unitsBehind, meaning, textOf, equal, sameText}
-use Rattle.policy.specs.Policy.{Operator, StringEquals, StringLike, NumericLessThanEquals, Row}
-use Rattle.policy.specs.Forms.{Reading, read}
-use Rattle.policy.specs.Members.{cons, members, differ}
-use Rattle.policy.specs.PolicyLayout.{valueOf, keyOf, rowOf, sameRow, rowsOf, operatorOf, sameOperator, Group}
-use Rattle.policy.specs.PolicyLayout.{sameGroup, groupOf, rowsIn, operatorsIn, conditionOf}
+use Rattle.chars.specs.Written.{writtenText}
+use Rattle.chars.specs.Decoding.{readOf, sequenceOf, unitsBehind, meaning, textOf, equal, sameText}
+use Rattle.syntax.specs.Policy.{Operator, StringEquals, StringLike, NumericLessThanEquals, Row}
+use Rattle.syntax.specs.Forms.{Reading, read}
+use Rattle.syntax.specs.Members.{cons, members, differ}
+use Rattle.syntax.specs.PolicyLayout.{valueOf, keyOf, rowOf, sameRow, rowsOf, operatorOf, sameOperator, Group}
+use Rattle.syntax.specs.PolicyLayout.{sameGroup, groupOf, rowsIn, operatorsIn, conditionOf}
 use Rattle.writing.specs.WrittenForm.{valueTree, listOf, joining, grouped, rowsTree, operatorWord, groupsTree}
 use Rattle.writing.specs.Valid.{Each, none, more, Some, first, ValidValue, ValidRow, ValidRows}
 use Rattle.writing.proofs.Laws.TreeSpelling.{characters-written}

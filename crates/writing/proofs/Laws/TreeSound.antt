@@ -8,27 +8,27 @@ use Prim.Native.Nat.{ℕ, _≤_}
 use native.Mathlib.Omega.{arith}
 use lib.Dec.{leb}
 use borrow.Author.Tests.{leb-true}
-use Rattle.text.specs.Base.{pick}
+use Rattle.chars.specs.Base.{pick}
 use Rattle.text.specs.Json.{Json, string, Members, named, depth, depths, depthm}
-use Rattle.text.specs.Written.{Scalars, written, writtenText}
-use Rattle.text.specs.Written as W
+use Rattle.chars.specs.Written.{Scalars, written, writtenText}
+use Rattle.chars.specs.Written as W
 use Rattle.text.specs.Printing.{Sound, sound-string, sound-list, sound-object, SoundValues, sound-no-more, sound-also}
 use Rattle.text.specs.Printing.{SoundMembers, sound-no-members, sound-named}
-use Rattle.text.proofs.Laws.Written.{Tells, text-tells}
+use Rattle.chars.proofs.Laws.Written.{Tells, text-tells}
 use Rattle.text.proofs.Laws.Printing.{written-sound, written-named}
-use Rattle.policy.specs.Policy.{Effect, Allow, Deny, Operator, StringEquals, StringLike, NumericLessThanEquals}
-use Rattle.policy.specs.Policy.{Value, text, number, Row, Statement, Policy}
-use Rattle.policy.specs.Forms.{all, isSid}
-use Rattle.policy.specs.Words.{versionWord, statementWord, editionWord, sidWord, effectWord, actionWord}
-use Rattle.policy.specs.Words.{resourceWord, conditionWord, allowWord, denyWord, stringEqualsWord, stringLikeWord}
-use Rattle.policy.specs.Words.{numericLessThanEqualsWord}
-use Rattle.policy.specs.PolicyLayout.{sameOperator, Group}
+use Rattle.syntax.specs.Policy.{Effect, Allow, Deny, Operator, StringEquals, StringLike, NumericLessThanEquals}
+use Rattle.syntax.specs.Policy.{Value, text, number, Row, Statement, Policy}
+use Rattle.syntax.specs.Forms.{all, isSid}
+use Rattle.syntax.specs.Words.{versionWord, statementWord, editionWord, sidWord, effectWord, actionWord}
+use Rattle.syntax.specs.Words.{resourceWord, conditionWord, allowWord, denyWord, stringEqualsWord, stringLikeWord}
+use Rattle.syntax.specs.Words.{numericLessThanEqualsWord}
+use Rattle.syntax.specs.PolicyLayout.{sameOperator, Group}
 use Rattle.writing.specs.WrittenForm.{bare, valuesOf, listOf, actionTree, resourceTree, valueTree, joining}
 use Rattle.writing.specs.WrittenForm.{grouped, rowsTree, operatorWord, groupsTree, effectName, sidMember}
 use Rattle.writing.specs.WrittenForm.{conditionMember, statementTree, treeOf}
 use Rattle.writing.specs.Valid.{Each, none, more, Some, first, ValidAction, ValidResource, ValidValue, equals}
 use Rattle.writing.specs.Valid.{like, at-most, ValidRow, ValidSid, absent, sid, ValidStatement, Valid}
-use Rattle.policy.proofs.Laws.Slots.{both-true}
+use Rattle.parts.proofs.Laws.Slots.{both-true}
 use Rattle.writing.proofs.Laws.TreeSpelling.{ascii, bare-wildcard, spelled-scalars, scalar-symbols}
 use Rattle.writing.proofs.Laws.TreeDigits.{digits-scalars}
 use Rattle.writing.proofs.Laws.TreeForms.{action-scalars, sid-scalars, key-scalars}

@@ -11,16 +11,16 @@ use native.Mathlib.Omega.{arith}
 use native.Mathlib.Decide.{ℕ-discrete}
 use lib.Dec.{eqb}
 use borrow.Author.Tests.{ne-eqb, eqb-false}
-use Rattle.text.specs.Base.{pick, oneOf}
-use Rattle.text.specs.Written.{Scalar, low, high, Scalars, writtenText}
-use Rattle.text.specs.Written as W
-use Rattle.text.proofs.Laws.Written.{text-round}
-use Rattle.policy.specs.Policy.{star, any}
-use Rattle.policy.specs.Forms.{read, both, either, wildcard, symbol, ahead, symbolsBehind, symbolsOf}
-use Rattle.policy.specs.Members.{characters}
+use Rattle.chars.specs.Base.{pick, oneOf}
+use Rattle.chars.specs.Written.{Scalar, low, high, Scalars, writtenText}
+use Rattle.chars.specs.Written as W
+use Rattle.chars.proofs.Laws.Written.{text-round}
+use Rattle.syntax.specs.Policy.{star, any}
+use Rattle.syntax.specs.Forms.{read, both, either, wildcard, symbol, ahead, symbolsBehind, symbolsOf}
+use Rattle.syntax.specs.Members.{characters}
 use Rattle.writing.specs.WrittenForm.{bare, isEscaped, spelling, spelled}
 use Rattle.writing.specs.Valid.{Each, none, more, Symbol, plain, run, one, Symbols}
-use Rattle.policy.proofs.Laws.Characters.{wildcard-none}
+use Rattle.syntax.proofs.Laws.Characters.{wildcard-none}
 
 pub characters-written : {cs : List ℕ} → Scalars cs → characters (writtenText cs) ≡ read cs
 unfolding characters

@@ -4,13 +4,13 @@ use mathlib.Core.Bool.{true}
 use mathlib.Core.List.{List, [], _∷_}
 use Prim.Native.Nat.{ℕ}
 use Rattle.text.specs.Json.{Json, string, object, Members, named}
-use Rattle.text.specs.Decoding.{readOf, sequenceOf, unitsBehind, meaning, textOf, equal, sameText}
-use Rattle.policy.specs.Policy.{Effect, Allow, Deny, Row, Statement}
-use Rattle.policy.specs.Forms.{read, isSid}
-use Rattle.policy.specs.Words.{sidWord, effectWord, actionWord, resourceWord, conditionWord}
-use Rattle.policy.specs.Members.{isWord, Slot, none, one, slot, isAmong, known, optional}
-use Rattle.policy.specs.PolicyLayout.{actionOf, resourceOf, conditionOf, effectOf, sidOf, statementIn}
-use Rattle.policy.specs.PolicyLayout.{statementOf}
+use Rattle.chars.specs.Decoding.{readOf, sequenceOf, unitsBehind, meaning, textOf, equal, sameText}
+use Rattle.syntax.specs.Policy.{Effect, Allow, Deny, Row, Statement}
+use Rattle.syntax.specs.Forms.{read, isSid}
+use Rattle.syntax.specs.Words.{sidWord, effectWord, actionWord, resourceWord, conditionWord}
+use Rattle.syntax.specs.Members.{isWord, Slot, none, one, slot, isAmong, known, optional}
+use Rattle.syntax.specs.PolicyLayout.{actionOf, resourceOf, conditionOf, effectOf, sidOf, statementIn}
+use Rattle.syntax.specs.PolicyLayout.{statementOf}
 use Rattle.writing.specs.WrittenForm.{stringOf, listOf, actionTree, resourceTree, grouped, groupsTree, effectName}
 use Rattle.writing.specs.WrittenForm.{sidMember, conditionMember, statementTree}
 use Rattle.writing.specs.Valid.{ValidAction, ValidResource, ValidRows, ValidSid, absent, sid, ValidStatement}

@@ -1,11 +1,11 @@
 -- The written form computed: the order's whole example; and every member, operator and escape in one policy.
 use mathlib.Core.Path.{_≡_, refl}
 use mathlib.Core.List.{[], _∷_}
-use Rattle.text.specs.Base.{oneOf}
-use Rattle.text.specs.Written.{coded, written, writtenText}
+use Rattle.chars.specs.Base.{oneOf}
+use Rattle.chars.specs.Written.{coded, written, writtenText}
 use Rattle.text.specs.Printing.{printed}
-use Rattle.policy.specs.Policy.{star, any, Allow, Deny, StringEquals, StringLike, NumericLessThanEquals, text}
-use Rattle.policy.specs.Policy.{number, Policy}
+use Rattle.syntax.specs.Policy.{star, any, Allow, Deny, StringEquals, StringLike, NumericLessThanEquals, text}
+use Rattle.syntax.specs.Policy.{number, Policy}
 use Rattle.writing.specs.WrittenForm.{bare, isEscaped, spelling, spelled, digitsUpTo, valuesOf, actionTree}
 use Rattle.writing.specs.WrittenForm.{resourceTree, valueTree, grouped, rowsTree, groupsTree, statementTree}
 use Rattle.writing.specs.WrittenForm.{treeOf, writtenPolicy}

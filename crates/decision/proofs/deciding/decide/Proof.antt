@@ -5,19 +5,19 @@ use mathlib.Core.Path.{sym, ap, _∙_, subst}
 use mathlib.Core.Logic.{⊎-elim}
 use Prim.Native.Nat.{_+_, _-_}
 use native.Mathlib.Omega.{arith}
-use Rattle.policy.proofs.Laws.Parts.{statement-lying, statement-inside, statement-effect, actions-lie, request-action}
-use Rattle.policy.proofs.Laws.Parts.{action-lies, text-value}
+use Rattle.held.proofs.Laws.Parts.{statement-lying, statement-inside, statement-effect, actions-lie, request-action}
+use Rattle.held.proofs.Laws.Parts.{action-lies, text-value}
 use borrow.Author.Tests.{not-true, not-false}
-use Rattle.policy.specs.Policy.{text}
+use Rattle.syntax.specs.Policy.{text}
 use Rattle.decision.specs.Matching.{matches}
-use Rattle.policy.specs.Held.{heldText, heldStatement, held, heldRequest, anyOf}
-use Rattle.policy.specs.Lying.{Lying}
+use Rattle.held.specs.Held.{heldText, heldStatement, held, heldRequest, anyOf}
+use Rattle.held.specs.Lying.{Lying}
 use Rattle.decision.specs.Decision.{decide}
 use Rattle.decision.specs.declared.deciding.Decision.the-variants.{Denied}
-use Rattle.policy.proofs.Laws.Runs.{lies-inside}
-use Rattle.policy.proofs.Laws.RunsStatement.{policy-inside, policy-count, policy-lies}
-use Rattle.policy.proofs.Laws.Coming.{Coming, coming, coming-list, lying, coming-more, coming-one}
-use Rattle.policy.proofs.Laws.Coming.{coming-now, coming-next, coming-end, any-on, some-is, none-is}
+use Rattle.held.proofs.Laws.Runs.{lies-inside}
+use Rattle.held.proofs.Laws.RunsStatement.{policy-inside, policy-count, policy-lies}
+use Rattle.held.proofs.Laws.Coming.{Coming, coming, coming-list, lying, coming-more, coming-one}
+use Rattle.held.proofs.Laws.Coming.{coming-now, coming-next, coming-end, any-on, some-is, none-is}
 use Rattle.decision.proofs.Laws.DecidingOrder.{unmatched, matched, is-deny, is-allow, told, told-all}
 use Rattle.decision.proofs.Laws.DecidingOrder.{told-passed}
 use Rattle.decision.proofs.Laws.DecidingOrder.{told-allowed, told-denied, left-allowed, left-implicit}

@@ -1,8 +1,8 @@
 -- The Resource list lies behind the Action list, the rows behind that; a request's parts lie one behind the other.
 use mathlib.Core.Path.{sym, _∙_}
-use Rattle.policy.proofs.Laws.Parts.{statement-lying, actions-values, resources-lie, resources-texts}
-use Rattle.policy.proofs.Laws.Parts.{resources-values, rows-lie, statement-rows, request-action, resource-lies}
-use Rattle.policy.proofs.Laws.Parts.{request-resource, contexts-lie, request-contexts, text-value}
+use Rattle.held.proofs.Laws.Parts.{statement-lying, actions-values, resources-lie, resources-texts}
+use Rattle.held.proofs.Laws.Parts.{resources-values, rows-lie, statement-rows, request-action, resource-lies}
+use Rattle.held.proofs.Laws.Parts.{request-resource, contexts-lie, request-contexts, text-value}
 use borrow.Author.Tests.{not-true, not-false}
 use Rattle.decision.proofs.Laws.DecidingStatement.{behind-resource, behind-rows}
 use Rattle.decision.proofs.deciding.failing_behind.Statement.{statement}

@@ -2,13 +2,13 @@
 use mathlib.Core.Path.{ap, _∙_}
 use Prim.Native.Nat.{_+_, _-_}
 use native.Mathlib.Omega.{arith}
-use Rattle.policy.specs.Held.{heldRow, heldList, heldContext}
-use Rattle.policy.specs.Lying.{Lying}
+use Rattle.held.specs.Held.{heldRow, heldList, heldContext}
+use Rattle.held.specs.Lying.{Lying}
 use Rattle.decision.specs.Decision.{rowsFrom}
 use Rattle.decision.specs.Deciding.{failingOf}
-use Rattle.policy.proofs.Laws.Runs.{lies-inside}
-use Rattle.policy.proofs.Laws.Coming.{Coming, coming-list, lying, coming-lying, coming-now, coming-next}
-use Rattle.policy.proofs.Laws.Coming.{coming-end}
+use Rattle.held.proofs.Laws.Runs.{lies-inside}
+use Rattle.held.proofs.Laws.Coming.{Coming, coming-list, lying, coming-lying, coming-now, coming-next}
+use Rattle.held.proofs.Laws.Coming.{coming-end}
 use Rattle.decision.proofs.Laws.DecidingRows.{row-fails, row-passed, rows-over}
 use borrow.Author.Needs.{needs}
 use Rattle.decision.proofs.deciding.failing_row.Statement.{statement}

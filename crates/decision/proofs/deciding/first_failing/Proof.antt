@@ -1,6 +1,6 @@
 -- The Action list lies behind the Sid, and the request's action at its beginning.
 use mathlib.Core.Path.{sym, _∙_}
-use Rattle.policy.proofs.Laws.Parts.{statement-lying, actions-lie, actions-texts, action-lies, request-action}
+use Rattle.held.proofs.Laws.Parts.{statement-lying, actions-lie, actions-texts, action-lies, request-action}
 use borrow.Author.Tests.{not-true, not-false}
 use Rattle.decision.proofs.Laws.DecidingStatement.{part-action, part-behind}
 use borrow.Author.Needs.{needs}

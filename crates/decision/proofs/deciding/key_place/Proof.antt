@@ -2,14 +2,14 @@
 use mathlib.Core.Path.{sym, _∙_}
 use Prim.Native.Nat.{_-_, _<_}
 use native.Mathlib.Omega.{arith}
-use Rattle.policy.specs.Held.{heldText, heldList, heldContext}
-use Rattle.policy.specs.Lying.{Lying}
-use Rattle.policy.proofs.Laws.Parts.{context-lying, key-lying, key-lies, value-lying, context-passed}
+use Rattle.held.specs.Held.{heldText, heldList, heldContext}
+use Rattle.held.specs.Lying.{Lying}
+use Rattle.held.proofs.Laws.Parts.{context-lying, key-lying, key-lies, value-lying, context-passed}
 use Rattle.decision.specs.Decision.{valueAt}
-use Rattle.policy.proofs.Laws.Runs.{lies-inside}
-use Rattle.policy.proofs.Laws.Requests.Lying.{context-inside}
-use Rattle.policy.proofs.Laws.Coming.{Coming, coming-list, lying, coming-lying, coming-now, coming-next}
-use Rattle.policy.proofs.Laws.Coming.{coming-end}
+use Rattle.held.proofs.Laws.Runs.{lies-inside}
+use Rattle.held.proofs.Laws.Requests.Lying.{context-inside}
+use Rattle.held.proofs.Laws.Coming.{Coming, coming-list, lying, coming-lying, coming-now, coming-next}
+use Rattle.held.proofs.Laws.Coming.{coming-end}
 use Rattle.decision.proofs.Laws.DecidingContexts.{value-on, finds-here, finds-none}
 use borrow.Author.Needs.{needs}
 use Rattle.decision.proofs.deciding.key_place.Statement.{statement}

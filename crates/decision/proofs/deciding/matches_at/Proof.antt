@@ -2,7 +2,7 @@
 use mathlib.Core.Path.{_∙_}
 use native.Mathlib.Omega.{arith}
 use Rattle.decision.specs.Matching.{matches}
-use Rattle.policy.proofs.Laws.Places.{texted, texted-both}
+use Rattle.held.proofs.Laws.Places.{texted, texted-both}
 use borrow.Author.Needs.{needs}
 use Rattle.decision.proofs.deciding.matches_at.Statement.{statement}
 use Rattle.decision.proofs.deciding.matches_at.Tie as tie

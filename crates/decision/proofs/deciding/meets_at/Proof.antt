@@ -1,6 +1,6 @@
 -- A number's first half is marked, and a text's length is not.
-use Rattle.policy.proofs.Laws.Runs.{value-inside}
-use Rattle.policy.proofs.Laws.Parts.{text-lying, number-lying}
+use Rattle.held.proofs.Laws.Runs.{value-inside}
+use Rattle.held.proofs.Laws.Parts.{text-lying, number-lying}
 use Rattle.decision.proofs.Laws.DecidingMeets.{meets-other, meets-apart, meets-number}
 use Rattle.decision.proofs.Laws.DecidingMeets.{meets-unlike, meets-same, meets-like, meets-none}
 use borrow.Author.Needs.{needs}

@@ -1,7 +1,7 @@
 -- The upper halves decide, and the lower ones where those are the same.
 use native.Mathlib.Omega.{arith}
 use Rattle.decision.proofs.Laws.Deciding.{halves-below, halves-above, halves-level}
-use Rattle.policy.proofs.Laws.Places.{halves-inside}
+use Rattle.held.proofs.Laws.Places.{halves-inside}
 use borrow.Author.Needs.{needs}
 use Rattle.decision.proofs.deciding.not_above_at.Statement.{statement}
 use Rattle.decision.proofs.deciding.not_above_at.Tie as tie

@@ -2,8 +2,8 @@
 use mathlib.Core.Path.{refl, sym, _∙_}
 use mathlib.Core.Bool.{true, false}
 use native.Mathlib.Omega.{arith}
-use Rattle.policy.proofs.Laws.Parts.{context-lying, row-inside, row-operator, row-key-lies, entries-lie, row-lying}
-use Rattle.policy.proofs.Laws.Parts.{row-key-lying, row-operating, entries-lying}
+use Rattle.held.proofs.Laws.Parts.{context-lying, row-inside, row-operator, row-key-lies, entries-lie, row-lying}
+use Rattle.held.proofs.Laws.Parts.{row-key-lying, row-operating, entries-lying}
 use borrow.Author.Tests.{not-true, not-false}
 use Rattle.decision.specs.Decision.{valueAt, rowResult}
 use Rattle.decision.proofs.Laws.DecidingRows.{something, found-lying}

@@ -1,8 +1,8 @@
 -- The characters lie where the lengths before them say.
 use mathlib.Core.Path.{_∙_}
 use native.Mathlib.Omega.{arith}
-use Rattle.policy.specs.Forms.{same}
-use Rattle.policy.proofs.Laws.Places.{texted, texted-both}
+use Rattle.syntax.specs.Forms.{same}
+use Rattle.held.proofs.Laws.Places.{texted, texted-both}
 use borrow.Author.Needs.{needs}
 use Rattle.decision.proofs.deciding.same_at.Statement.{statement}
 use Rattle.decision.proofs.deciding.same_at.Tie as tie

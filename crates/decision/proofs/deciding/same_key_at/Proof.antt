@@ -1,8 +1,8 @@
 -- The keys lie where the lengths before them say.
 use mathlib.Core.Path.{_∙_}
 use native.Mathlib.Omega.{arith}
-use Rattle.policy.specs.Forms.{sameKey}
-use Rattle.policy.proofs.Laws.Places.{texted, texted-both}
+use Rattle.syntax.specs.Forms.{sameKey}
+use Rattle.held.proofs.Laws.Places.{texted, texted-both}
 use borrow.Author.Needs.{needs}
 use Rattle.decision.proofs.deciding.same_key_at.Statement.{statement}
 use Rattle.decision.proofs.deciding.same_key_at.Tie as tie

@@ -3,13 +3,13 @@ use mathlib.Core.Path.{sym, _∙_}
 use mathlib.Core.Bool.{true}
 use Prim.Native.Nat.{_-_}
 use native.Mathlib.Omega.{arith}
-use Rattle.policy.specs.Held.{heldValue, heldList, anyOf}
-use Rattle.policy.specs.Lying.{Lying}
+use Rattle.held.specs.Held.{heldValue, heldList, anyOf}
+use Rattle.held.specs.Lying.{Lying}
 use Rattle.decision.specs.Decision.{meets}
-use Rattle.policy.specs.Places.{Operating}
-use Rattle.policy.proofs.Laws.Runs.{lies-inside}
-use Rattle.policy.proofs.Laws.Coming.{Coming, coming-list, lying, coming-lying, coming-decided}
-use Rattle.policy.proofs.Laws.Coming.{coming-next, coming-end, any-here, any-on}
+use Rattle.held.specs.Places.{Operating}
+use Rattle.held.proofs.Laws.Runs.{lies-inside}
+use Rattle.held.proofs.Laws.Coming.{Coming, coming-list, lying, coming-lying, coming-decided}
+use Rattle.held.proofs.Laws.Coming.{coming-next, coming-end, any-here, any-on}
 use borrow.Author.Needs.{needs}
 use Rattle.decision.proofs.deciding.some_meets.Statement.{statement}
 use Rattle.decision.proofs.deciding.some_meets.Tie as tie

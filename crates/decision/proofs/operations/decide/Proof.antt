@@ -1,6 +1,6 @@
 -- The policy is refused; or the record under the policy that was read.
 use native.Mathlib.Omega.{arith}
-use Rattle.policy.specs.Held.{held}
+use Rattle.held.specs.Held.{held}
 use Rattle.policy.specs.Reading.{policyRules}
 use Rattle.decision.specs.Operations.{policy-refused}
 use Rattle.decision.proofs.Laws.Operations.{answers-held, answers-refused, knows-lies, behind-refused}

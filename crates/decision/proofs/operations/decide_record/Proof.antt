@@ -1,7 +1,7 @@
 -- The record is refused, or decided under the policy that lies there.
 use mathlib.Core.Path.{sym, ap, _∙_, subst}
 use native.Mathlib.Omega.{arith}
-use Rattle.policy.specs.Held.{held, heldRequest}
+use Rattle.held.specs.Held.{held, heldRequest}
 use Rattle.policy.specs.Reading.{recordRules, Outcome, known}
 use Rattle.decision.specs.Operations.{RecordDecides, refuses, decides}
 use Rattle.decision.proofs.Laws.Operations.{answers-held, answers-refused, knows-lies, record-decided}

@@ -9,26 +9,26 @@ use native.Mathlib.Omega.{arith}
 use lib.ListN.{length, getD, set}
 use Rattle.text.specs.Json.{Json, null, bool, number, string, list, object, Members}
 use Rattle.text.specs.Contents.{kindOf, Stands}
-use Rattle.policy.specs.Policy.{Context}
-use Rattle.policy.specs.Policy as P
-use Rattle.policy.specs.Forms.{Reading, wrong, read}
-use Rattle.policy.specs.Words.{contextKeyNameWord, contextKeyTypeWord, contextKeyValuesWord}
-use Rattle.policy.specs.Members.{Slot, none, many, one, then, slot, known, required}
-use Rattle.policy.specs.RecordLayout.{keyNameOf, typedOf, contextOf}
-use Rattle.policy.specs.Held.{heldText, heldValue, heldContext}
-use Rattle.policy.specs.Slots.{wordsOf, wordAt, Placed, Turn, Repeated, Slotted}
-use Rattle.policy.specs.Holding.{isObject, Extends, Laid, Holds}
-use Rattle.policy.specs.declared.members.Layout.the-variants as L
-use Rattle.policy.specs.declared.holding.Held.{Held}
-use Rattle.policy.specs.declared.holding.Held.the-variants.{Past, Wrong}
-use Rattle.policy.specs.Requests.{typeNamed, typeOf, typedAs}
-use Rattle.policy.proofs.Laws.Holding.{never}
-use Rattle.policy.proofs.Laws.Extends.{extends-then, extends-front}
-use Rattle.policy.proofs.Laws.Formed.{then-wrong, then-read}
-use Rattle.policy.proofs.Laws.Fits.{then-inv}
-use Rattle.policy.proofs.Laws.Requests.Tests.{typed-is, typed-none, typed-kind, kind-one}
-use Rattle.policy.proofs.Laws.Requests.Sole.{theOne}
-use Rattle.policy.proofs.Laws.Requests.Objects.{AnObject, is-object, object-stands}
+use Rattle.syntax.specs.Policy.{Context}
+use Rattle.syntax.specs.Policy as P
+use Rattle.syntax.specs.Forms.{Reading, wrong, read}
+use Rattle.syntax.specs.Words.{contextKeyNameWord, contextKeyTypeWord, contextKeyValuesWord}
+use Rattle.syntax.specs.Members.{Slot, none, many, one, then, slot, known, required}
+use Rattle.syntax.specs.RecordLayout.{keyNameOf, typedOf, contextOf}
+use Rattle.held.specs.Held.{heldText, heldValue, heldContext}
+use Rattle.parts.specs.Slots.{wordsOf, wordAt, Placed, Turn, Repeated, Slotted}
+use Rattle.parts.specs.Holding.{isObject, Extends, Laid, Holds}
+use Rattle.parts.specs.declared.members.Layout.the-variants as L
+use Rattle.parts.specs.declared.holding.Held.{Held}
+use Rattle.parts.specs.declared.holding.Held.the-variants.{Past, Wrong}
+use Rattle.parts.specs.Requests.{typeNamed, typeOf, typedAs}
+use Rattle.parts.proofs.Laws.Holding.{never}
+use Rattle.parts.proofs.Laws.Extends.{extends-then, extends-front}
+use Rattle.parts.proofs.Laws.Formed.{then-wrong, then-read}
+use Rattle.parts.proofs.Laws.Fits.{then-inv}
+use Rattle.parts.proofs.Laws.Requests.Tests.{typed-is, typed-none, typed-kind, kind-one}
+use Rattle.parts.proofs.Laws.Requests.Sole.{theOne}
+use Rattle.parts.proofs.Laws.Requests.Objects.{AnObject, is-object, object-stands}
 
 -- ---- what the members say
 

@@ -9,21 +9,21 @@ use lib.ListN.{length, set}
 use borrow.Author.Tests.{le-leb, lt-leb}
 use Rattle.text.specs.Json.{Json, null, bool, number, string, list, object}
 use Rattle.text.specs.Contents.{kindOf, Stands}
-use Rattle.policy.specs.Limits.{mostContext}
-use Rattle.policy.specs.Policy.{Context}
-use Rattle.policy.specs.Forms.{Reading, wrong, read, both}
-use Rattle.policy.specs.Members.{Slot, then, only, each, differ, differing, optional}
-use Rattle.policy.specs.RecordLayout.{contextOf, sameContext, contextsOf}
-use Rattle.policy.specs.Held.{heldEach, heldList, heldContext}
-use Rattle.policy.specs.Slots.{Placed}
-use Rattle.policy.specs.Room.{cost, costs, Roomy, HoldableList, costOf}
-use Rattle.policy.specs.Holding.{isList, Extends, Laid, Gathered}
-use Rattle.policy.proofs.Laws.Holding.{never}
-use Rattle.policy.proofs.Laws.Room.{cost-list}
-use Rattle.policy.proofs.Laws.Extends.{extends-front}
-use Rattle.policy.proofs.Laws.Fits.{wrong-read}
-use Rattle.policy.proofs.Laws.Requests.Members.{Found, placed-found}
-use Rattle.policy.proofs.Laws.Requests.Sole.{AList, is-list, list-stands}
+use Rattle.syntax.specs.Limits.{mostContext}
+use Rattle.syntax.specs.Policy.{Context}
+use Rattle.syntax.specs.Forms.{Reading, wrong, read, both}
+use Rattle.syntax.specs.Members.{Slot, then, only, each, differ, differing, optional}
+use Rattle.syntax.specs.RecordLayout.{contextOf, sameContext, contextsOf}
+use Rattle.held.specs.Held.{heldEach, heldList, heldContext}
+use Rattle.parts.specs.Slots.{Placed}
+use Rattle.parts.specs.Room.{cost, costs, Roomy, HoldableList, costOf}
+use Rattle.parts.specs.Holding.{isList, Extends, Laid, Gathered}
+use Rattle.parts.proofs.Laws.Holding.{never}
+use Rattle.parts.proofs.Laws.Room.{cost-list}
+use Rattle.parts.proofs.Laws.Extends.{extends-front}
+use Rattle.parts.proofs.Laws.Fits.{wrong-read}
+use Rattle.parts.proofs.Laws.Requests.Members.{Found, placed-found}
+use Rattle.parts.proofs.Laws.Requests.Sole.{AList, is-list, list-stands}
 
 -- ---- what a list says
 

@@ -6,24 +6,24 @@ use mathlib.Core.List.{List}
 use Prim.Native.Nat.{ℕ, _+_, _≤_, _<_}
 use native.Mathlib.Omega.{arith}
 use lib.ListN.{length, set, length-set, length-append}
-use Rattle.text.specs.Base.{pick}
+use Rattle.chars.specs.Base.{pick}
 use Rattle.text.specs.Json.{Json, null, bool, number, string, list, object, Members}
-use Rattle.policy.specs.Policy.{Value, text, Context}
-use Rattle.policy.specs.Policy as P
-use Rattle.policy.specs.Forms.{Reading, wrong, read, numberIn}
-use Rattle.policy.specs.Words.{contextKeyNameWord, contextKeyTypeWord, contextKeyValuesWord, stringTypeWord}
-use Rattle.policy.specs.Words.{numericTypeWord}
-use Rattle.policy.specs.Members.{Slot, none, many, one, only, isWord, charactersOf, slot, known, required}
-use Rattle.policy.specs.RecordLayout.{onlyOne, short, asNumber, isKeyName, keyNameOf, typedOf, contextOf}
-use Rattle.policy.specs.Held.{heldText, heldValue, heldContext}
-use Rattle.policy.specs.Slots.{wordsOf}
-use Rattle.policy.specs.Room.{cost, costm, Roomy, costOf}
-use Rattle.policy.specs.Holding.{Laid}
-use Rattle.policy.specs.declared.members.Layout.the-variants as L
-use Rattle.policy.specs.Requests.{soleOf}
-use Rattle.policy.proofs.Laws.Room.{slotCost, slotsCost, layout-room, cost-object}
-use Rattle.policy.proofs.Laws.Fits.{wrong-read, then-inv, only-inv, pick-inv, characters-fit}
-use Rattle.policy.proofs.Laws.Requests.Sole.{theOne, sole-only, sole-cost}
+use Rattle.syntax.specs.Policy.{Value, text, Context}
+use Rattle.syntax.specs.Policy as P
+use Rattle.syntax.specs.Forms.{Reading, wrong, read, numberIn}
+use Rattle.syntax.specs.Words.{contextKeyNameWord, contextKeyTypeWord, contextKeyValuesWord, stringTypeWord}
+use Rattle.syntax.specs.Words.{numericTypeWord}
+use Rattle.syntax.specs.Members.{Slot, none, many, one, only, isWord, charactersOf, slot, known, required}
+use Rattle.syntax.specs.RecordLayout.{onlyOne, short, asNumber, isKeyName, keyNameOf, typedOf, contextOf}
+use Rattle.held.specs.Held.{heldText, heldValue, heldContext}
+use Rattle.parts.specs.Slots.{wordsOf}
+use Rattle.parts.specs.Room.{cost, costm, Roomy, costOf}
+use Rattle.parts.specs.Holding.{Laid}
+use Rattle.parts.specs.declared.members.Layout.the-variants as L
+use Rattle.parts.specs.Requests.{soleOf}
+use Rattle.parts.proofs.Laws.Room.{slotCost, slotsCost, layout-room, cost-object}
+use Rattle.parts.proofs.Laws.Fits.{wrong-read, then-inv, only-inv, pick-inv, characters-fit}
+use Rattle.parts.proofs.Laws.Requests.Sole.{theOne, sole-only, sole-cost}
 use Rattle.policy.proofs.Laws.Requests.Context.{contextIn, contextWithin}
 
 -- ---- one member

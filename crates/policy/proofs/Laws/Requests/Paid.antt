@@ -5,17 +5,17 @@ use Prim.Native.Nat.{ℕ, _+_, _≤_}
 use native.Mathlib.Omega.{arith}
 use lib.ListN.{length}
 use Rattle.text.specs.Json.{Json, object, Members}
-use Rattle.policy.specs.Forms.{read}
-use Rattle.policy.specs.Words.{actionNamesWord, resourceArnsWord, contextEntriesWord}
-use Rattle.policy.specs.Members.{Slot, none, many, one, only, slot}
-use Rattle.policy.specs.RecordLayout.{onlyOne, isActionName, actionNameOf, isResourceArn}
-use Rattle.policy.specs.Held.{heldText}
-use Rattle.policy.specs.Room.{cost, costm, Roomy, costOf}
-use Rattle.policy.specs.Holding.{Laid}
-use Rattle.policy.specs.declared.members.Layout.the-variants as L
-use Rattle.policy.proofs.Laws.Room.{slotCost, slotsCost, layout-room, cost-object}
-use Rattle.policy.proofs.Laws.Fits.{wrong-read, then-inv, only-inv}
-use Rattle.policy.proofs.Laws.Requests.Sole.{theOne, action-name-said, resource-arn-said}
+use Rattle.syntax.specs.Forms.{read}
+use Rattle.syntax.specs.Words.{actionNamesWord, resourceArnsWord, contextEntriesWord}
+use Rattle.syntax.specs.Members.{Slot, none, many, one, only, slot}
+use Rattle.syntax.specs.RecordLayout.{onlyOne, isActionName, actionNameOf, isResourceArn}
+use Rattle.held.specs.Held.{heldText}
+use Rattle.parts.specs.Room.{cost, costm, Roomy, costOf}
+use Rattle.parts.specs.Holding.{Laid}
+use Rattle.parts.specs.declared.members.Layout.the-variants as L
+use Rattle.parts.proofs.Laws.Room.{slotCost, slotsCost, layout-room, cost-object}
+use Rattle.parts.proofs.Laws.Fits.{wrong-read, then-inv, only-inv}
+use Rattle.parts.proofs.Laws.Requests.Sole.{theOne, action-name-said, resource-arn-said}
 use Rattle.policy.proofs.Laws.Requests.Fits.{slot-value, required-cost, one-fit}
 use Rattle.policy.proofs.Laws.Requests.Record.{actionIn, resourceIn}
 

@@ -9,22 +9,22 @@ use native.Mathlib.Omega.{arith}
 use lib.ListN.{getD}
 use Rattle.text.specs.Json.{Json, null, bool, number, string, list, object, Members}
 use Rattle.text.specs.Contents.{kindOf, Stands}
-use Rattle.policy.specs.Policy.{Context, Request}
-use Rattle.policy.specs.Forms.{Reading, wrong, read}
-use Rattle.policy.specs.Words.{actionNamesWord, resourceArnsWord, contextEntriesWord}
-use Rattle.policy.specs.Members.{Slot, many, then, slot, known, required, optional}
-use Rattle.policy.specs.RecordLayout.{onlyOne, actionNameOf, resourceArnOf}
-use Rattle.policy.specs.RecordLayout.{contextsOf, requestOf}
-use Rattle.policy.specs.Held.{heldText, heldList, heldContext, heldRequest}
-use Rattle.policy.specs.Slots.{wordsOf, wordAt, Placed, Turn, Repeated, Slotted}
-use Rattle.policy.specs.Holding.{isObject, Laid, Holds}
-use Rattle.policy.specs.declared.members.Layout.the-variants as L
-use Rattle.policy.specs.declared.holding.Held.{Held}
-use Rattle.policy.specs.declared.holding.Held.the-variants.{Past, Wrong}
-use Rattle.policy.proofs.Laws.Holding.{never}
-use Rattle.policy.proofs.Laws.Extends.{extends-then}
-use Rattle.policy.proofs.Laws.Formed.{then-wrong, then-read}
-use Rattle.policy.proofs.Laws.Requests.Objects.{AnObject, is-object, object-stands}
+use Rattle.syntax.specs.Policy.{Context, Request}
+use Rattle.syntax.specs.Forms.{Reading, wrong, read}
+use Rattle.syntax.specs.Words.{actionNamesWord, resourceArnsWord, contextEntriesWord}
+use Rattle.syntax.specs.Members.{Slot, many, then, slot, known, required, optional}
+use Rattle.syntax.specs.RecordLayout.{onlyOne, actionNameOf, resourceArnOf}
+use Rattle.syntax.specs.RecordLayout.{contextsOf, requestOf}
+use Rattle.held.specs.Held.{heldText, heldList, heldContext, heldRequest}
+use Rattle.parts.specs.Slots.{wordsOf, wordAt, Placed, Turn, Repeated, Slotted}
+use Rattle.parts.specs.Holding.{isObject, Laid, Holds}
+use Rattle.parts.specs.declared.members.Layout.the-variants as L
+use Rattle.parts.specs.declared.holding.Held.{Held}
+use Rattle.parts.specs.declared.holding.Held.the-variants.{Past, Wrong}
+use Rattle.parts.proofs.Laws.Holding.{never}
+use Rattle.parts.proofs.Laws.Extends.{extends-then}
+use Rattle.parts.proofs.Laws.Formed.{then-wrong, then-read}
+use Rattle.parts.proofs.Laws.Requests.Objects.{AnObject, is-object, object-stands}
 
 -- ---- what the members say
 

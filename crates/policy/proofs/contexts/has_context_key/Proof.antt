@@ -2,12 +2,12 @@
 use mathlib.Core.Path.{refl, sym, _∙_}
 use mathlib.Core.Bool.{false}
 use Prim.Native.Nat.{_-_}
-use Rattle.policy.specs.Policy.{Context}
-use Rattle.policy.specs.RecordLayout.{sameContext}
-use Rattle.policy.specs.Held.{heldContext}
-use Rattle.policy.specs.Lying.{Lies}
-use Rattle.policy.proofs.Laws.RunsWalk.{Walks, walk-start, walk-lying, walk-next, walk-end}
-use Rattle.policy.proofs.Laws.RunsWalk.{walk-found, like-any}
+use Rattle.syntax.specs.Policy.{Context}
+use Rattle.syntax.specs.RecordLayout.{sameContext}
+use Rattle.held.specs.Held.{heldContext}
+use Rattle.held.specs.Lying.{Lies}
+use Rattle.held.proofs.Laws.RunsWalk.{Walks, walk-start, walk-lying, walk-next, walk-end}
+use Rattle.held.proofs.Laws.RunsWalk.{walk-found, like-any}
 use borrow.Author.Needs.{needs}
 use Rattle.policy.proofs.contexts.has_context_key.Statement.{statement}
 use Rattle.policy.proofs.contexts.has_context_key.Tie as tie

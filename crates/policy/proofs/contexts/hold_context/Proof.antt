@@ -6,14 +6,14 @@ use lib.ListN.{length, length-set}
 use borrow.Author.Tests.{not-true, not-false}
 use Rattle.text.specs.Json.{Json}
 use Rattle.text.specs.Contents.{Stands}
-use Rattle.policy.specs.Words.{contextKeyNameWord, contextKeyTypeWord, contextKeyValuesWord}
-use Rattle.policy.specs.Members.{slot, required}
-use Rattle.policy.specs.RecordLayout.{keyNameOf}
-use Rattle.policy.specs.Held.{heldText, heldContext}
-use Rattle.policy.specs.Holding.{isObject, Laid}
-use Rattle.policy.proofs.Laws.Formed.{holds-past}
-use Rattle.policy.proofs.Laws.Requests.Members.{is-kind, refused, holds-as}
-use Rattle.policy.proofs.Laws.Requests.Objects.{is-object, object-stands}
+use Rattle.syntax.specs.Words.{contextKeyNameWord, contextKeyTypeWord, contextKeyValuesWord}
+use Rattle.syntax.specs.Members.{slot, required}
+use Rattle.syntax.specs.RecordLayout.{keyNameOf}
+use Rattle.held.specs.Held.{heldText, heldContext}
+use Rattle.parts.specs.Holding.{isObject, Laid}
+use Rattle.parts.proofs.Laws.Formed.{holds-past}
+use Rattle.parts.proofs.Laws.Requests.Members.{is-kind, refused, holds-as}
+use Rattle.parts.proofs.Laws.Requests.Objects.{is-object, object-stands}
 use Rattle.policy.proofs.Laws.Requests.Context.{not-context, contextWithin, key-wrong, type-wrong, Parts}
 use Rattle.policy.proofs.Laws.Requests.Context.{context-parts, context-apart, context-held}
 use Rattle.policy.proofs.Laws.Requests.Fits.{key-room, front-room, value-room}

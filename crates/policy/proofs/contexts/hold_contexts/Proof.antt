@@ -5,13 +5,13 @@ use Prim.Native.Nat.{_+_}
 use native.Mathlib.Omega.{arith}
 use lib.ListN.{length-set}
 use borrow.Author.Tests.{not-true, not-false}
-use Rattle.policy.specs.Members.{optional, each}
-use Rattle.policy.specs.RecordLayout.{contextOf, contextsOf}
-use Rattle.policy.specs.Held.{heldContext, heldEach}
-use Rattle.policy.specs.Holding.{isList}
-use Rattle.policy.proofs.Laws.Formed.{gathers-several, gathers-wrong}
-use Rattle.policy.proofs.Laws.Requests.Members.{placed-absent, is-kind}
-use Rattle.policy.proofs.Laws.Requests.Laying.{extends-one}
+use Rattle.syntax.specs.Members.{optional, each}
+use Rattle.syntax.specs.RecordLayout.{contextOf, contextsOf}
+use Rattle.held.specs.Held.{heldContext, heldEach}
+use Rattle.parts.specs.Holding.{isList}
+use Rattle.parts.proofs.Laws.Formed.{gathers-several, gathers-wrong}
+use Rattle.parts.proofs.Laws.Requests.Members.{placed-absent, is-kind}
+use Rattle.parts.proofs.Laws.Requests.Laying.{extends-one}
 use Rattle.policy.proofs.Laws.Requests.Contexts.{apartly, found, contexts-not, listed, listed-stands}
 use Rattle.policy.proofs.Laws.Requests.Contexts.{contexts-wrong, contexts-many, contexts-few, contexts-room}
 use Rattle.policy.proofs.Laws.Requests.Contexts.{contexts-held}

@@ -1,12 +1,12 @@
 -- Each turn holds one entry behind those before it, or ends the walk: none left, one that is wrong, a key given twice.
 use mathlib.Core.Path.{sym, _∙_}
 use native.Mathlib.Omega.{arith}
-use Rattle.policy.specs.RecordLayout.{contextOf, sameContext}
-use Rattle.policy.specs.Held.{heldContext}
-use Rattle.policy.proofs.Laws.Formed.{holds-past, holds-wrong}
-use Rattle.policy.proofs.Laws.Differ.{sameContext-symmetric}
-use Rattle.policy.proofs.Laws.Gathering.{elementLeft, next-holdable, next-standing, next-resting, next-few}
-use Rattle.policy.proofs.Laws.Gathering.{gathering-less}
+use Rattle.syntax.specs.RecordLayout.{contextOf, sameContext}
+use Rattle.held.specs.Held.{heldContext}
+use Rattle.parts.proofs.Laws.Formed.{holds-past, holds-wrong}
+use Rattle.parts.proofs.Laws.Differ.{sameContext-symmetric}
+use Rattle.parts.proofs.Laws.Gathering.{elementLeft, next-holdable, next-standing, next-resting, next-few}
+use Rattle.parts.proofs.Laws.Gathering.{gathering-less}
 use Rattle.policy.proofs.Laws.Requests.Fits.{context-fits}
 use Rattle.policy.proofs.Laws.Apart.{Apart, apart-start, apart-end, after, apart-wrong, one-lies}
 use Rattle.policy.proofs.Laws.Apart.{many-lie, apart-alike, apart-more}

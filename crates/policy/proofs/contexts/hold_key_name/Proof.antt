@@ -2,15 +2,15 @@
 use mathlib.Core.Path.{refl, ap, _∙_}
 use native.Mathlib.Omega.{arith}
 use borrow.Author.Tests.{not-true, not-false}
-use Rattle.policy.specs.Members.{charactersOf, required}
-use Rattle.policy.specs.RecordLayout.{isKeyName, keyNameOf}
-use Rattle.policy.specs.Room.{costOf}
-use Rattle.policy.specs.Held.{heldText}
-use Rattle.policy.proofs.Laws.Room.{roomy-less}
-use Rattle.policy.proofs.Laws.Formed.{holds-past, past-first, past-within, part-told, formed-no, formed-yes}
-use Rattle.policy.proofs.Laws.Formed.{then-wrong}
-use Rattle.policy.proofs.Laws.Requests.Members.{placed-absent, placed-found, refused}
-use Rattle.policy.proofs.Laws.Requests.Sole.{key-said}
+use Rattle.syntax.specs.Members.{charactersOf, required}
+use Rattle.syntax.specs.RecordLayout.{isKeyName, keyNameOf}
+use Rattle.parts.specs.Room.{costOf}
+use Rattle.held.specs.Held.{heldText}
+use Rattle.parts.proofs.Laws.Room.{roomy-less}
+use Rattle.parts.proofs.Laws.Formed.{holds-past, past-first, past-within, part-told, formed-no, formed-yes}
+use Rattle.parts.proofs.Laws.Formed.{then-wrong}
+use Rattle.parts.proofs.Laws.Requests.Members.{placed-absent, placed-found, refused}
+use Rattle.parts.proofs.Laws.Requests.Sole.{key-said}
 use borrow.Author.Needs.{needs}
 use Rattle.policy.proofs.contexts.hold_key_name.Statement.{statement}
 use Rattle.policy.proofs.contexts.hold_key_name.Tie as tie

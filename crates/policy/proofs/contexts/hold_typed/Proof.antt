@@ -3,18 +3,18 @@ use mathlib.Core.Path.{_∙_}
 use Prim.Native.Nat.{_≤_}
 use native.Mathlib.Omega.{arith}
 use lib.ListN.{length}
-use Rattle.policy.specs.Policy.{text, number}
-use Rattle.policy.specs.Members.{Slot}
-use Rattle.policy.specs.Held.{heldText}
-use Rattle.policy.specs.Slots.{Placed}
-use Rattle.policy.specs.Holding.{Laid}
-use Rattle.policy.proofs.Laws.Numbers.{number-small}
-use Rattle.policy.proofs.Laws.Extends.{extends-kept, extends-after}
-use Rattle.policy.proofs.Laws.Formed.{holds-past, past-first, past-within, then-wrong, then-read}
-use Rattle.policy.proofs.Laws.Requests.Tests.{typed-text, typed-long}
-use Rattle.policy.proofs.Laws.Requests.Members.{refused}
-use Rattle.policy.proofs.Laws.Requests.Sole.{theOne}
-use Rattle.policy.proofs.Laws.Requests.Laying.{number-no, number-read, number-said, number-room}
+use Rattle.syntax.specs.Policy.{text, number}
+use Rattle.syntax.specs.Members.{Slot}
+use Rattle.held.specs.Held.{heldText}
+use Rattle.parts.specs.Slots.{Placed}
+use Rattle.parts.specs.Holding.{Laid}
+use Rattle.syntax.proofs.Laws.Numbers.{number-small}
+use Rattle.parts.proofs.Laws.Extends.{extends-kept, extends-after}
+use Rattle.parts.proofs.Laws.Formed.{holds-past, past-first, past-within, then-wrong, then-read}
+use Rattle.parts.proofs.Laws.Requests.Tests.{typed-text, typed-long}
+use Rattle.parts.proofs.Laws.Requests.Members.{refused}
+use Rattle.parts.proofs.Laws.Requests.Sole.{theOne}
+use Rattle.parts.proofs.Laws.Requests.Laying.{number-no, number-read, number-said, number-room}
 use borrow.Author.Needs.{needs}
 use Rattle.policy.proofs.contexts.hold_typed.Statement.{statement}
 use Rattle.policy.proofs.contexts.hold_typed.Tie as tie

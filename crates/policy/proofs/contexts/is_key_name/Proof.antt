@@ -1,7 +1,7 @@
 -- The characters are looked at first, then their number.
 use mathlib.Core.Path.{sym, _∙_}
 use borrow.Author.Tests.{not-true, not-false}
-use Rattle.policy.proofs.Laws.Requests.Tests.{key-no, key-short}
+use Rattle.parts.proofs.Laws.Requests.Tests.{key-no, key-short}
 use borrow.Author.Needs.{needs}
 use Rattle.policy.proofs.contexts.is_key_name.Statement.{statement}
 use Rattle.policy.proofs.contexts.is_key_name.Tie as tie

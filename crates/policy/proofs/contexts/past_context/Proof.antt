@@ -1,7 +1,7 @@
 -- The key's length tells where the value lies, the type how long that is.
 use native.Mathlib.Omega.{arith}
-use Rattle.policy.proofs.Laws.Requests.Lying.{context-named, context-inside, value-inside, context-number}
-use Rattle.policy.proofs.Laws.Requests.Lying.{context-text}
+use Rattle.held.proofs.Laws.Requests.Lying.{context-named, context-inside, value-inside, context-number}
+use Rattle.held.proofs.Laws.Requests.Lying.{context-text}
 use borrow.Author.Needs.{needs}
 use Rattle.policy.proofs.contexts.past_context.Statement.{statement}
 use Rattle.policy.proofs.contexts.past_context.Tie as tie

@@ -1,9 +1,9 @@
 -- The keys lie where their entries' second numbers say.
 use mathlib.Core.Path.{_∙_}
 use native.Mathlib.Omega.{arith}
-use Rattle.policy.specs.Forms.{sameKey}
-use Rattle.policy.proofs.Laws.Runs.{named-both}
-use Rattle.policy.proofs.Laws.Requests.Lying.{context-named}
+use Rattle.syntax.specs.Forms.{sameKey}
+use Rattle.held.proofs.Laws.Runs.{named-both}
+use Rattle.held.proofs.Laws.Requests.Lying.{context-named}
 use borrow.Author.Needs.{needs}
 use Rattle.policy.proofs.contexts.same_context_at.Statement.{statement}
 use Rattle.policy.proofs.contexts.same_context_at.Tie as tie

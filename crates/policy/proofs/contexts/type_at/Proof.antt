@@ -1,8 +1,8 @@
 -- An absent member names no type; the two words are tried in their turn.
 use mathlib.Core.Path.{sym, ap, _∙_}
-use Rattle.policy.specs.Requests.{typeOf}
-use Rattle.policy.proofs.Laws.Requests.Tests.{type-text, type-number, type-none}
-use Rattle.policy.proofs.Laws.Requests.Members.{placed-absent, placed-found}
+use Rattle.parts.specs.Requests.{typeOf}
+use Rattle.parts.proofs.Laws.Requests.Tests.{type-text, type-number, type-none}
+use Rattle.parts.proofs.Laws.Requests.Members.{placed-absent, placed-found}
 use borrow.Author.Needs.{needs}
 use Rattle.policy.proofs.contexts.type_at.Statement.{statement}
 use Rattle.policy.proofs.contexts.type_at.Tie as tie

@@ -1,8 +1,8 @@
 -- The policy is held from the run's beginning on, and its limits are judged on what is held.
 use mathlib.Core.Path.{sym, _∙_}
 use native.Mathlib.Omega.{arith}
-use Rattle.policy.specs.Held.{held}
-use Rattle.policy.proofs.Laws.Formed.{holds-past, holds-wrong}
+use Rattle.held.specs.Held.{held}
+use Rattle.parts.proofs.Laws.Formed.{holds-past, holds-wrong}
 use Rattle.policy.proofs.Laws.Reading.{whole-text, root-stands, root-room, held-lies, policy-wrong}
 use Rattle.policy.proofs.Laws.Reading.{policy-over, policy-known}
 use borrow.Author.Needs.{needs}

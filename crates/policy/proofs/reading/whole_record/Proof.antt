@@ -1,7 +1,7 @@
 -- The record is held from the run's beginning on.
 use native.Mathlib.Omega.{arith}
-use Rattle.policy.specs.Held.{heldRequest}
-use Rattle.policy.proofs.Laws.Formed.{holds-past, holds-wrong}
+use Rattle.held.specs.Held.{heldRequest}
+use Rattle.parts.proofs.Laws.Formed.{holds-past, holds-wrong}
 use Rattle.policy.proofs.Laws.Reading.{whole-text, root-stands, root-room, record-wrong, record-known}
 use borrow.Author.Needs.{needs}
 use Rattle.policy.proofs.reading.whole_record.Statement.{statement}

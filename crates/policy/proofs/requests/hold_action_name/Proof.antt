@@ -2,12 +2,12 @@
 use mathlib.Core.Path.{_∙_}
 use native.Mathlib.Omega.{arith}
 use borrow.Author.Tests.{not-true, not-false}
-use Rattle.policy.specs.RecordLayout.{isActionName}
-use Rattle.policy.specs.Held.{heldText}
-use Rattle.policy.proofs.Laws.Formed.{holds-past, past-first, past-within, part-told, formed-no, formed-yes}
-use Rattle.policy.proofs.Laws.Formed.{then-wrong}
-use Rattle.policy.proofs.Laws.Requests.Members.{refused}
-use Rattle.policy.proofs.Laws.Requests.Sole.{theOne, action-name-said}
+use Rattle.syntax.specs.RecordLayout.{isActionName}
+use Rattle.held.specs.Held.{heldText}
+use Rattle.parts.proofs.Laws.Formed.{holds-past, past-first, past-within, part-told, formed-no, formed-yes}
+use Rattle.parts.proofs.Laws.Formed.{then-wrong}
+use Rattle.parts.proofs.Laws.Requests.Members.{refused}
+use Rattle.parts.proofs.Laws.Requests.Sole.{theOne, action-name-said}
 use borrow.Author.Needs.{needs}
 use Rattle.policy.proofs.requests.hold_action_name.Statement.{statement}
 use Rattle.policy.proofs.requests.hold_action_name.Tie as tie

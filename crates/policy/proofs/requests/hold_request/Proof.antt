@@ -4,14 +4,14 @@ use Prim.Native.Nat.{ℕ}
 use borrow.Author.Tests.{not-true, not-false}
 use Rattle.text.specs.Json.{Json}
 use Rattle.text.specs.Contents.{Stands}
-use Rattle.policy.specs.Words.{actionNamesWord, resourceArnsWord, contextEntriesWord}
-use Rattle.policy.specs.Members.{slot}
-use Rattle.policy.specs.RecordLayout.{requestOf}
-use Rattle.policy.specs.Held.{heldText, heldRequest}
-use Rattle.policy.specs.Holding.{isObject, Laid}
-use Rattle.policy.proofs.Laws.Formed.{holds-past}
-use Rattle.policy.proofs.Laws.Requests.Members.{is-kind, refused, holds-as}
-use Rattle.policy.proofs.Laws.Requests.Objects.{is-object, object-stands}
+use Rattle.syntax.specs.Words.{actionNamesWord, resourceArnsWord, contextEntriesWord}
+use Rattle.syntax.specs.Members.{slot}
+use Rattle.syntax.specs.RecordLayout.{requestOf}
+use Rattle.held.specs.Held.{heldText, heldRequest}
+use Rattle.parts.specs.Holding.{isObject, Laid}
+use Rattle.parts.proofs.Laws.Formed.{holds-past}
+use Rattle.parts.proofs.Laws.Requests.Members.{is-kind, refused, holds-as}
+use Rattle.parts.proofs.Laws.Requests.Objects.{is-object, object-stands}
 use Rattle.policy.proofs.Laws.Requests.Record.{not-request, actionIn, resourceIn, requestWithin, action-wrong}
 use Rattle.policy.proofs.Laws.Requests.Record.{resource-wrong, Parts, request-parts, request-apart}
 use Rattle.policy.proofs.Laws.Requests.Record.{request-held}

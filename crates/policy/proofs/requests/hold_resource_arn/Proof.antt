@@ -5,15 +5,15 @@ use Prim.Native.Nat.{_+_}
 use native.Mathlib.Omega.{arith}
 use lib.ListN.{length-set}
 use borrow.Author.Tests.{not-true, not-false}
-use Rattle.policy.specs.Members.{optional}
-use Rattle.policy.specs.RecordLayout.{onlyOne, isResourceArn, resourceArnOf}
-use Rattle.policy.specs.Held.{heldText}
-use Rattle.policy.proofs.Laws.Room.{roomy-less}
-use Rattle.policy.proofs.Laws.Formed.{holds-past, past-first, past-within, part-told, formed-no, formed-yes}
-use Rattle.policy.proofs.Laws.Formed.{then-wrong}
-use Rattle.policy.proofs.Laws.Requests.Members.{placed-absent, refused}
-use Rattle.policy.proofs.Laws.Requests.Sole.{theOne, resource-said}
-use Rattle.policy.proofs.Laws.Requests.Laying.{extends-two}
+use Rattle.syntax.specs.Members.{optional}
+use Rattle.syntax.specs.RecordLayout.{onlyOne, isResourceArn, resourceArnOf}
+use Rattle.held.specs.Held.{heldText}
+use Rattle.parts.proofs.Laws.Room.{roomy-less}
+use Rattle.parts.proofs.Laws.Formed.{holds-past, past-first, past-within, part-told, formed-no, formed-yes}
+use Rattle.parts.proofs.Laws.Formed.{then-wrong}
+use Rattle.parts.proofs.Laws.Requests.Members.{placed-absent, refused}
+use Rattle.parts.proofs.Laws.Requests.Sole.{theOne, resource-said}
+use Rattle.parts.proofs.Laws.Requests.Laying.{extends-two}
 use borrow.Author.Needs.{needs}
 use Rattle.policy.proofs.requests.hold_resource_arn.Statement.{statement}
 use Rattle.policy.proofs.requests.hold_resource_arn.Tie as tie

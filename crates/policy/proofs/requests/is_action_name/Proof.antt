@@ -1,7 +1,7 @@
 -- Vendor and name first, then wildcards, then the length.
 use mathlib.Core.Path.{sym, _∙_}
 use borrow.Author.Tests.{not-true, not-false}
-use Rattle.policy.proofs.Laws.Requests.Tests.{action-no, action-wild, action-short}
+use Rattle.parts.proofs.Laws.Requests.Tests.{action-no, action-wild, action-short}
 use borrow.Author.Needs.{needs}
 use Rattle.policy.proofs.requests.is_action_name.Statement.{statement}
 use Rattle.policy.proofs.requests.is_action_name.Tie as tie

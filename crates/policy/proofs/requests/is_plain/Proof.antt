@@ -2,9 +2,9 @@
 use mathlib.Core.Path.{_≡_, refl, sym, _∙_}
 use Prim.Native.Nat.{_-_}
 use lib.ListN.{length, drop}
-use Rattle.policy.specs.Forms.{all}
-use Rattle.policy.specs.RecordLayout.{isPlain}
-use Rattle.policy.proofs.Laws.Forms.{all-next, all-stop, all-end}
+use Rattle.syntax.specs.Forms.{all}
+use Rattle.syntax.specs.RecordLayout.{isPlain}
+use Rattle.syntax.proofs.Laws.Forms.{all-next, all-stop, all-end}
 use borrow.Author.Tests.{not-true, not-false}
 use borrow.Author.Needs.{needs}
 use Rattle.policy.proofs.requests.is_plain.Statement.{statement}

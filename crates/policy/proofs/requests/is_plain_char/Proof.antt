@@ -1,6 +1,6 @@
 -- The colon is computed; any other must be a vendor's character.
 use mathlib.Core.Path.{_∙_}
-use Rattle.policy.proofs.Laws.Requests.Tests.{plain-colon, plain-rest}
+use Rattle.parts.proofs.Laws.Requests.Tests.{plain-colon, plain-rest}
 use borrow.Author.Needs.{needs}
 use Rattle.policy.proofs.requests.is_plain_char.Statement.{statement}
 use Rattle.policy.proofs.requests.is_plain_char.Tie as tie

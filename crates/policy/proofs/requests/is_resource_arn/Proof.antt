@@ -1,6 +1,6 @@
 -- The length is looked at first, then the star alone, then the beginning and the colons.
 use mathlib.Core.Path.{sym, _∙_}
-use Rattle.policy.proofs.Laws.Requests.Tests.{arn-long, arn-star, arn-rest}
+use Rattle.parts.proofs.Laws.Requests.Tests.{arn-long, arn-star, arn-rest}
 use borrow.Author.Needs.{needs}
 use Rattle.policy.proofs.requests.is_resource_arn.Statement.{statement}
 use Rattle.policy.proofs.requests.is_resource_arn.Tie as tie

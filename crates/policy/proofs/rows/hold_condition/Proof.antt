@@ -3,12 +3,12 @@ use mathlib.Core.Path.{refl}
 use Prim.Native.Nat.{_≤_}
 use native.Mathlib.Omega.{arith}
 use borrow.Author.Tests.{not-true, not-false}
-use Rattle.policy.specs.Held.{heldRow}
-use Rattle.policy.specs.PolicyLayout.{operatorsIn, conditionOf}
-use Rattle.policy.specs.Holding.{isObject}
-use Rattle.policy.proofs.Laws.Formed.{gathers-several, gathers-wrong}
-use Rattle.policy.proofs.Laws.Several.{kind-told, is-object, object-holdable, object-stands, gathered-few}
-use Rattle.policy.proofs.Laws.Several.{row-some, cost-two}
+use Rattle.held.specs.Held.{heldRow}
+use Rattle.syntax.specs.PolicyLayout.{operatorsIn, conditionOf}
+use Rattle.parts.specs.Holding.{isObject}
+use Rattle.parts.proofs.Laws.Formed.{gathers-several, gathers-wrong}
+use Rattle.parts.proofs.Laws.Several.{kind-told, is-object, object-holdable, object-stands, gathered-few}
+use Rattle.parts.proofs.Laws.Several.{row-some, cost-two}
 use Rattle.policy.proofs.Laws.Groups.{object-left, object-none, object-laid}
 use Rattle.policy.proofs.Laws.Operators.{condition-inside}
 use borrow.Author.Needs.{needs}

@@ -2,12 +2,12 @@
 use mathlib.Core.Path.{refl}
 use native.Mathlib.Omega.{arith}
 use borrow.Author.Tests.{not-true, not-false}
-use Rattle.policy.specs.Held.{heldRow}
-use Rattle.policy.specs.Spoken.{operatorIs}
-use Rattle.policy.specs.PolicyLayout.{rowsOf}
-use Rattle.policy.specs.Holding.{isObject}
-use Rattle.policy.proofs.Laws.Formed.{gathers-several, gathers-wrong}
-use Rattle.policy.proofs.Laws.Several.{kind-told, is-object, object-holdable, object-stands}
+use Rattle.held.specs.Held.{heldRow}
+use Rattle.parts.specs.Spoken.{operatorIs}
+use Rattle.syntax.specs.PolicyLayout.{rowsOf}
+use Rattle.parts.specs.Holding.{isObject}
+use Rattle.parts.proofs.Laws.Formed.{gathers-several, gathers-wrong}
+use Rattle.parts.proofs.Laws.Several.{kind-told, is-object, object-holdable, object-stands}
 use Rattle.policy.proofs.Laws.Groups.{rows-inside, object-left, object-none, object-some}
 use borrow.Author.Needs.{needs}
 use Rattle.policy.proofs.rows.hold_group.Statement.{statement}

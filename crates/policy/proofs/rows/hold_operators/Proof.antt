@@ -3,10 +3,10 @@ use mathlib.Core.Path.{_≡_, refl, sym, ap, _∙_}
 use Prim.Native.Nat.{ℕ, _≤_, _<_}
 use native.Mathlib.Omega.{arith}
 use lib.ListN.{getD}
-use Rattle.policy.specs.Held.{heldRow, operatorNumber}
-use Rattle.policy.specs.Spoken.{operatorIs}
-use Rattle.policy.proofs.Laws.Formed.{gathers-several, gathers-wrong}
-use Rattle.policy.proofs.Laws.Walking.{leftOf}
+use Rattle.held.specs.Held.{heldRow, operatorNumber}
+use Rattle.parts.specs.Spoken.{operatorIs}
+use Rattle.parts.proofs.Laws.Formed.{gathers-several, gathers-wrong}
+use Rattle.parts.proofs.Laws.Walking.{leftOf}
 use Rattle.policy.proofs.Laws.Groups.{number-small}
 use Rattle.policy.proofs.Laws.Operators.{Operators, operators-start, operators-end, group-unknown, known}
 use Rattle.policy.proofs.Laws.Operators.{group-left, here, here-holdable, here-standing, here-continuing}

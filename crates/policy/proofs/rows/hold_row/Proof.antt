@@ -1,9 +1,9 @@
 -- The key and the values are held one behind the other, the operator's number is written last.
 use mathlib.Core.Path.{_∙_}
 use native.Mathlib.Omega.{arith}
-use Rattle.policy.specs.Held.{heldText, heldList, heldValue}
-use Rattle.policy.specs.Spoken.{operatorIs}
-use Rattle.policy.proofs.Laws.Formed.{holds-past, holds-wrong}
+use Rattle.held.specs.Held.{heldText, heldList, heldValue}
+use Rattle.parts.specs.Spoken.{operatorIs}
+use Rattle.parts.proofs.Laws.Formed.{holds-past, holds-wrong}
 use Rattle.policy.proofs.Laws.Rows.{row-left, key-place, row-entries-left, row-laid}
 use borrow.Author.Needs.{needs}
 use Rattle.policy.proofs.rows.hold_row.Statement.{statement}

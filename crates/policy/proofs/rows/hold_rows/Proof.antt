@@ -1,9 +1,9 @@
 -- Each turn holds one row behind those before it; a key that one of them has, or a wrong row, ends the walk.
 use mathlib.Core.Path.{sym, _∙_}
-use Rattle.policy.specs.Held.{heldRow}
-use Rattle.policy.specs.Spoken.{operatorIs}
-use Rattle.policy.proofs.Laws.Formed.{holds-past, holds-wrong}
-use Rattle.policy.proofs.Laws.Walking.{leftOf}
+use Rattle.held.specs.Held.{heldRow}
+use Rattle.parts.specs.Spoken.{operatorIs}
+use Rattle.parts.proofs.Laws.Formed.{holds-past, holds-wrong}
+use Rattle.parts.proofs.Laws.Walking.{leftOf}
 use Rattle.policy.proofs.Laws.Rows.{Apart, apart-start, apart-end, here, here-member, here-standing}
 use Rattle.policy.proofs.Laws.Rows.{here-continuing, here-less, apart-wrong, rows-lie, row-lies, row-lying}
 use Rattle.policy.proofs.Laws.Rows.{apart-size, apart-twice, apart-few, apart-more}

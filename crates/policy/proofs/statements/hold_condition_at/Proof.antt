@@ -1,8 +1,8 @@
 -- An absent condition is no rows; one that is there is held where it stands.
 use mathlib.Core.List.{[]}
 use native.Mathlib.Omega.{arith}
-use Rattle.policy.specs.PolicyLayout.{conditionOf}
-use Rattle.policy.specs.Held.{heldList, heldRow}
+use Rattle.syntax.specs.PolicyLayout.{conditionOf}
+use Rattle.held.specs.Held.{heldList, heldRow}
 use Rattle.policy.proofs.Laws.StatementsParts.{absent-laid, there-holdable, there-holds, no-rows}
 use borrow.Author.Needs.{needs}
 use Rattle.policy.proofs.statements.hold_condition_at.Statement.{statement}

@@ -1,9 +1,9 @@
 -- Where a member is unknown, repeated or missing there is no statement; else its parts are held behind the place of the
 -- effect's number, which is written last.
 use native.Mathlib.Omega.{arith}
-use Rattle.policy.specs.Spoken.{toldEffect}
+use Rattle.parts.specs.Spoken.{toldEffect}
 use Rattle.policy.specs.Statements.{heldParts}
-use Rattle.policy.proofs.Laws.Formed.{holds-past, holds-wrong}
+use Rattle.parts.proofs.Laws.Formed.{holds-past, holds-wrong}
 use Rattle.policy.proofs.Laws.Statements.{slots-left, effect-missing, action-missing, resource-missing}
 use Rattle.policy.proofs.Laws.Statements.{sid-placed, condition-placed, effect-there, action-there}
 use Rattle.policy.proofs.Laws.Statements.{resource-there, effect-standing, effect-left, front-room}

@@ -1,9 +1,9 @@
 -- Each part is held behind those before it; what is wrong in one is wrong in all.
 use native.Mathlib.Omega.{arith}
-use Rattle.policy.specs.PolicyLayout.{actionOf, resourceOf}
-use Rattle.policy.specs.Held.{heldText, heldList, heldValue}
-use Rattle.policy.proofs.Laws.Formed.{holds-past, holds-wrong}
-use Rattle.policy.proofs.Laws.Fits.{action-fits, resource-fits}
+use Rattle.syntax.specs.PolicyLayout.{actionOf, resourceOf}
+use Rattle.held.specs.Held.{heldText, heldList, heldValue}
+use Rattle.parts.proofs.Laws.Formed.{holds-past, holds-wrong}
+use Rattle.parts.proofs.Laws.Fits.{action-fits, resource-fits}
 use Rattle.policy.proofs.Laws.StatementsParts.{texts-left, texts-laid, sid-place, entries-place}
 use Rattle.policy.proofs.Laws.StatementsParts.{sid-left, actions-left, resources-left, parts-holds}
 use borrow.Author.Needs.{needs}

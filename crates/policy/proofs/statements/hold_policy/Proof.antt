@@ -1,8 +1,8 @@
 -- Where a member is unknown, repeated, missing or the Version another there is no policy; else its statements are held.
 use mathlib.Core.Path.{refl, sym, _∙_}
 use borrow.Author.Tests.{not-true, not-false}
-use Rattle.policy.specs.Holding.{isObject}
-use Rattle.policy.proofs.Laws.Several.{kind-told, is-object, object-stands}
+use Rattle.parts.specs.Holding.{isObject}
+use Rattle.parts.proofs.Laws.Several.{kind-told, is-object, object-stands}
 use Rattle.policy.proofs.Laws.StatementsPolicy.{policy-not, policy-left, version-missing, statement-missing}
 use Rattle.policy.proofs.Laws.StatementsPolicy.{version-there, statement-there, version-standing, version-left}
 use Rattle.policy.proofs.Laws.StatementsPolicy.{statements-holdable, policy-holds}

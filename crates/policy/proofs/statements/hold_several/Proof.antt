@@ -2,11 +2,11 @@
 use Prim.Native.Nat.{_≤_}
 use native.Mathlib.Omega.{arith}
 use borrow.Author.Tests.{not-true, not-false}
-use Rattle.policy.specs.Held.{heldStatement}
-use Rattle.policy.specs.Holding.{isList}
-use Rattle.policy.proofs.Laws.Formed.{holds-past, holds-wrong, gathers-several, gathers-wrong}
-use Rattle.policy.proofs.Laws.Several.{kind-told, is-list, list-holdable, gathered-few, statement-some}
-use Rattle.policy.proofs.Laws.Several.{list-stands}
+use Rattle.held.specs.Held.{heldStatement}
+use Rattle.parts.specs.Holding.{isList}
+use Rattle.parts.proofs.Laws.Formed.{holds-past, holds-wrong, gathers-several, gathers-wrong}
+use Rattle.parts.proofs.Laws.Several.{kind-told, is-list, list-holdable, gathered-few, statement-some}
+use Rattle.parts.proofs.Laws.Several.{list-stands}
 use Rattle.policy.proofs.Laws.StatementsPolicy.{single-left, single-laid, several-left, several-none}
 use Rattle.policy.proofs.Laws.StatementsPolicy.{several-laid}
 use borrow.Author.Needs.{needs}

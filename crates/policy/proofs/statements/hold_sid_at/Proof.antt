@@ -2,8 +2,8 @@
 use mathlib.Core.Path.{refl}
 use mathlib.Core.List.{[]}
 use native.Mathlib.Omega.{arith}
-use Rattle.policy.specs.PolicyLayout.{sidOf}
-use Rattle.policy.specs.Held.{heldText}
+use Rattle.syntax.specs.PolicyLayout.{sidOf}
+use Rattle.held.specs.Held.{heldText}
 use Rattle.policy.proofs.Laws.StatementsParts.{absent-laid, there-holdable, there-holds}
 use borrow.Author.Needs.{needs}
 use Rattle.policy.proofs.statements.hold_sid_at.Statement.{statement}

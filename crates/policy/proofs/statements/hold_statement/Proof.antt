@@ -2,8 +2,8 @@
 use mathlib.Core.Path.{refl}
 use native.Mathlib.Omega.{arith}
 use borrow.Author.Tests.{not-true, not-false}
-use Rattle.policy.specs.Holding.{isObject}
-use Rattle.policy.proofs.Laws.Several.{kind-told, object-holdable, object-stands}
+use Rattle.parts.specs.Holding.{isObject}
+use Rattle.parts.proofs.Laws.Several.{kind-told, object-holdable, object-stands}
 use Rattle.policy.proofs.Laws.Statements.{not-object, of-object}
 use borrow.Author.Needs.{needs}
 use Rattle.policy.proofs.statements.hold_statement.Statement.{statement}

@@ -1,12 +1,12 @@
 -- Each turn holds one statement behind those before it, unless one of them has its Sid, or ends the walk.
 use mathlib.Core.Path.{sym, _∙_}
-use Rattle.policy.specs.PolicyLayout.{statementOf, sameSid}
-use Rattle.policy.specs.Held.{heldStatement}
-use Rattle.policy.proofs.Laws.Formed.{holds-past, holds-wrong}
+use Rattle.syntax.specs.PolicyLayout.{statementOf, sameSid}
+use Rattle.held.specs.Held.{heldStatement}
+use Rattle.parts.proofs.Laws.Formed.{holds-past, holds-wrong}
 use Rattle.policy.proofs.Laws.FitsPolicy.{statement-fits}
-use Rattle.policy.proofs.Laws.Gathering.{elementLeft, next, next-holdable, next-standing, next-resting, next-few}
-use Rattle.policy.proofs.Laws.Gathering.{gathering-less}
-use Rattle.policy.proofs.Laws.Differ.{sameSid-symmetric}
+use Rattle.parts.proofs.Laws.Gathering.{elementLeft, next, next-holdable, next-standing, next-resting, next-few}
+use Rattle.parts.proofs.Laws.Gathering.{gathering-less}
+use Rattle.parts.proofs.Laws.Differ.{sameSid-symmetric}
 use Rattle.policy.proofs.Laws.Apart.{Apart, apart-start, apart-end, apart-wrong, many-lie, one-lies, apart-lying}
 use Rattle.policy.proofs.Laws.Apart.{apart-alike, apart-more}
 use borrow.Author.Needs.{needs}

@@ -1,6 +1,6 @@
 -- The list of the entries with what is charged to them, and then the rows.
 use mathlib.Core.Path.{refl}
-use Rattle.refine.specs.Rooms.{slots, allowedCharges}
+use Rattle.rooms.specs.Rooms.{slots, allowedCharges}
 use Rattle.refine.proofs.Laws.Charged.{charges-right}
 use Rattle.refine.proofs.Laws.Held.{listable, listed, feedable}
 use borrow.Author.Needs.{needs}
@@ -8,8 +8,8 @@ use Rattle.refine.proofs.operations.charge.Statement.{statement}
 use Rattle.refine.proofs.operations.charge.Tie as tie
 use Rattle.refine.proofs.operations.charge.Reads as reads
 use Rattle.refine.proofs.operations.charge.Lts as lts
-use Rattle.refine.proofs.listing.list_policy.Reads as list-policy-reads
-use Rattle.refine.proofs.walking.feed_room.Reads as feed-room-reads
+use Rattle.rooms.proofs.listing.list_policy.Reads as list-policy-reads
+use Rattle.rooms.proofs.walking.feed_room.Reads as feed-room-reads
 
 slice-aggregate-list-policy : tie.Need-slice-aggregate-list-policy
 slice-aggregate-list-policy c = search needs

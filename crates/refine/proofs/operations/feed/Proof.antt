@@ -2,7 +2,7 @@
 use native.Mathlib.Omega.{arith}
 use lib.ListN.{length}
 use borrow.Author.Tests.{eq-eqb, ne-eqb}
-use Rattle.policy.specs.Held.{held}
+use Rattle.held.specs.Held.{held}
 use Rattle.policy.specs.Reading.{policyRules}
 use Rattle.decision.proofs.Laws.Operations.{answers-held, answers-refused, knows-lies}
 use Rattle.refine.specs.Operations.{roomNumbers, no-room, no-policy}

@@ -1,6 +1,6 @@
 -- A request that is allowed is charged; another changes nothing.
 use mathlib.Core.Path.{sym, _∙_}
-use Rattle.policy.specs.Held.{held, heldRequest}
+use Rattle.held.specs.Held.{held, heldRequest}
 use Rattle.refine.proofs.Laws.Held.{fed-allowed, fed-denied, fed-implicit}
 use borrow.Author.Needs.{needs}
 use Rattle.refine.proofs.operations.feed_request.Statement.{statement}

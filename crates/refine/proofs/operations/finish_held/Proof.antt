@@ -10,8 +10,8 @@ use Rattle.refine.proofs.operations.finish_held.Statement.{statement}
 use Rattle.refine.proofs.operations.finish_held.Tie as tie
 use Rattle.refine.proofs.operations.finish_held.Reads as reads
 use Rattle.refine.proofs.operations.finish_held.Lts as lts
-use Rattle.refine.proofs.finishing.put_refined.Reads as put-refined-reads
-use Rattle.refine.proofs.finishing.some_allowed.Reads as some-allowed-reads
+use Rattle.refined.proofs.finishing.put_refined.Reads as put-refined-reads
+use Rattle.refined.proofs.finishing.some_allowed.Reads as some-allowed-reads
 use Rattle.refine.proofs.operations.holds_room.Reads as holds-room-reads
 use Rattle.writing.proofs.operations.deliver.Reads as deliver-reads
 

@@ -1,14 +1,14 @@
 -- The list of the entries, and then the rows.
 use mathlib.Core.Path.{refl}
-use Rattle.refine.specs.Rooms.{slots}
+use Rattle.rooms.specs.Rooms.{slots}
 use Rattle.refine.proofs.Laws.Held.{listable, no-request, listed, roomy}
 use borrow.Author.Needs.{needs}
 use Rattle.refine.proofs.operations.holds_room.Statement.{statement}
 use Rattle.refine.proofs.operations.holds_room.Tie as tie
 use Rattle.refine.proofs.operations.holds_room.Reads as reads
 use Rattle.refine.proofs.operations.holds_room.Lts as lts
-use Rattle.refine.proofs.listing.list_policy.Reads as list-policy-reads
-use Rattle.refine.proofs.walking.fits_room.Reads as fits-room-reads
+use Rattle.rooms.proofs.listing.list_policy.Reads as list-policy-reads
+use Rattle.rooms.proofs.walking.fits_room.Reads as fits-room-reads
 
 slice-aggregate-list-policy : tie.Need-slice-aggregate-list-policy
 slice-aggregate-list-policy c = search needs

@@ -1,7 +1,7 @@
 -- One of the rooms is refused; or they are joined.
 use mathlib.Core.Path.{refl, sym, _∙_}
 use borrow.Author.Tests.{not-true, not-false}
-use Rattle.refine.specs.Rooms.{slots}
+use Rattle.rooms.specs.Rooms.{slots}
 use Rattle.refine.specs.Sound.{no-content, no-other-content, joins}
 use Rattle.refine.proofs.Laws.Held.{listable, no-request, listed, roomy, meetable, rooms-joined}
 use borrow.Author.Needs.{needs}
@@ -9,9 +9,9 @@ use Rattle.refine.proofs.operations.join_held.Statement.{statement}
 use Rattle.refine.proofs.operations.join_held.Tie as tie
 use Rattle.refine.proofs.operations.join_held.Reads as reads
 use Rattle.refine.proofs.operations.join_held.Lts as lts
-use Rattle.refine.proofs.listing.list_policy.Reads as list-policy-reads
-use Rattle.refine.proofs.walking.fits_room.Reads as fits-room-reads
-use Rattle.refine.proofs.walking.join_room.Reads as join-room-reads
+use Rattle.rooms.proofs.listing.list_policy.Reads as list-policy-reads
+use Rattle.rooms.proofs.walking.fits_room.Reads as fits-room-reads
+use Rattle.rooms.proofs.walking.join_room.Reads as join-room-reads
 
 slice-aggregate-list-policy : tie.Need-slice-aggregate-list-policy
 slice-aggregate-list-policy c = search needs

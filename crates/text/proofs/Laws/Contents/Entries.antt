@@ -4,7 +4,7 @@ use mathlib.Core.List.{List, [], _∷_}
 use Prim.Native.Nat.{ℕ, _+_, _-_, _≤_, _<_}
 use native.Mathlib.Omega.{arith}
 use lib.ListN.{length}
-use Rattle.text.specs.Base.{At, part, oneOf}
+use Rattle.chars.specs.Base.{At, part, oneOf}
 use Rattle.text.specs.Json.{Members, named, depth, depthm, levels, Space, a-value, members, Reads, member}
 use Rattle.text.specs.Machine.{ws, text, move}
 use Rattle.text.specs.Reading.{Done}

@@ -6,7 +6,7 @@ use native.Mathlib.Omega.{arith}
 use lib.Dec.{eqb}
 use lib.ListN.{getD}
 use borrow.Author.Tests.{ne-eqb}
-use Rattle.text.specs.Base.{pick}
+use Rattle.chars.specs.Base.{pick}
 use Rattle.text.specs.Json.{Json, a-value, Reads, a-null}
 use Rattle.text.specs.Json.{a-true, a-false, a-number, a-string, empty-list, some-list, empty-object, some-object}
 use Rattle.text.specs.Contents.{Stands, kindOf}

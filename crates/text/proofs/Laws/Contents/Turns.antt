@@ -5,7 +5,7 @@ use mathlib.Core.List.{List, [], _∷_}
 use Prim.Native.Nat.{ℕ, _+_, _≤_, _<_}
 use native.Mathlib.Omega.{arith}
 use lib.ListN.{length, getD}
-use Rattle.text.specs.Base.{At, oneOf}
+use Rattle.chars.specs.Base.{At, oneOf}
 use Rattle.text.specs.Json.{Values, Members, no-more, no-members, list, object, depth, depths, depthm, levels}
 use Rattle.text.specs.Json.{Space, a-value, elements, rest, members, more, Reads, empty-list, some-list, element}
 use Rattle.text.specs.Json.{close-list, comma-list, empty-object, some-object, close-object, comma-object}

@@ -7,9 +7,9 @@ use native.Mathlib.Omega.{arith}
 use lib.Dec.{eqb}
 use borrow.Author.Tests.{eq-eqb, ne-eqb}
 use types.Run.{OneOf}
-use Rattle.text.specs.Base.{pick, within}
+use Rattle.chars.specs.Base.{pick, within}
 use Rattle.text.specs.Machine.{pass, bad, go, ws, byte, range, move}
-use Rattle.text.proofs.Laws.Tests.{inside, under, over, among, outside}
+use Rattle.chars.proofs.Laws.Tests.{inside, under, over, among, outside}
 
 module _ (b : ℕ) where
   pub ws-line : 9 ≤ b → b < 11 → move ws b ≡ go (ws ∷ [])

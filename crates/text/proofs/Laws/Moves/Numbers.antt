@@ -6,7 +6,7 @@ use native.Mathlib.Omega.{arith}
 use borrow.Author.Tests.{eq-eqb, ne-eqb}
 use types.Run.{OneOf}
 use Rattle.text.specs.Machine.{pass, bad, go, digits, digit, integer, fraction, exponent, sign, move}
-use Rattle.text.proofs.Laws.Tests.{inside, under, over, among, outside}
+use Rattle.chars.proofs.Laws.Tests.{inside, under, over, among, outside}
 
 module _ (b : ℕ) where
   pub digits-is : 48 ≤ b → b < 58 → move digits b ≡ go (digits ∷ [])

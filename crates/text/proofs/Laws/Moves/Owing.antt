@@ -4,7 +4,7 @@ use mathlib.Core.Bool.{Bool, true, false}
 use mathlib.Core.List.{List, [], _∷_, _++_, append-assoc}
 use Prim.Native.Nat.{ℕ, zero, suc}
 use lib.Dec.{eqb}
-use Rattle.text.specs.Base.{pick, within}
+use Rattle.chars.specs.Base.{pick, within}
 use Rattle.text.specs.Machine.{Item, Move, pass, bad, deep, go, ws, byte, text, char, value, first, next, close}
 use Rattle.text.specs.Machine.{before, inner, leads, high, onto, owing, opens, begins, move, feed}
 use Rattle.text.specs.declared.scan.Shape.{Shape}

@@ -6,10 +6,10 @@ use native.Mathlib.Omega.{arith}
 use lib.ListN.{replicate}
 use borrow.Author.Tests.{ne-eqb}
 use types.Run.{OneOf}
-use Rattle.text.specs.Base.{oneOf}
+use Rattle.chars.specs.Base.{oneOf}
 use Rattle.text.specs.Machine.{Move, bad, go, hex, text, char, escape, letters, sequence, leads, high, owing}
 use Rattle.text.specs.Machine.{move}
-use Rattle.text.proofs.Laws.Tests.{inside, under, over, among, outside}
+use Rattle.chars.proofs.Laws.Tests.{inside, under, over, among, outside}
 
 module _ (b : ℕ) where
   pub hex-digit : 48 ≤ b → b < 58 → move hex b ≡ go []

@@ -6,12 +6,12 @@ use mathlib.Core.Logic.{inl, inr, _⊎_}
 use Prim.Native.Nat.{ℕ, _≤_, _<_}
 use native.Mathlib.Omega.{arith}
 use borrow.Author.Tests.{eq-eqb, ne-eqb}
-use Rattle.text.specs.Base.{within}
+use Rattle.chars.specs.Base.{within}
 use Rattle.text.specs.Machine.{bad, go, ws, byte, text, integer, value, first, next, close, before, inner, opener}
 use Rattle.text.specs.Machine.{opens, begins, enters, move}
 use Rattle.text.specs.declared.scan.Shape.{Shape}
 use Rattle.text.specs.declared.scan.Shape.the-variants.{List as list, Object as object}
-use Rattle.text.proofs.Laws.Tests.{inside, under, over}
+use Rattle.chars.proofs.Laws.Tests.{inside, under, over}
 
 module _ (b : ℕ) where
   pub value-is : (n : ℕ) → move (value n) b ≡ begins n b

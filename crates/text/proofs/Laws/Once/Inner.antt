@@ -3,7 +3,7 @@ use mathlib.Core.Path.{_≡_, refl, sym, ap, _∙_, subst}
 use mathlib.Core.List.{List}
 use Prim.Native.Nat.{ℕ, _+_}
 use native.Mathlib.Omega.{arith}
-use Rattle.text.specs.Base.{At, oneOf}
+use Rattle.chars.specs.Base.{At, oneOf}
 use Rattle.text.specs.Json.{Json, Values, Members, no-more, also, no-members, list, object, Space, a-value}
 use Rattle.text.specs.Json.{elements, rest, members, more, Reads, a-null, a-true, a-false, a-number, a-string}
 use Rattle.text.specs.Json.{empty-list, some-list, element, close-list, comma-list, empty-object, some-object}

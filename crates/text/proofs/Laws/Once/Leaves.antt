@@ -7,7 +7,7 @@ use native.Mathlib.Omega.{arith}
 use lib.Dec.{eqb}
 use lib.ListN.{getD}
 use borrow.Author.Tests.{ne-eqb}
-use Rattle.text.specs.Base.{pick, At, part}
+use Rattle.chars.specs.Base.{pick, At, part}
 use Rattle.text.specs.Json.{Json, null, bool, number, string, depth, Number}
 use Rattle.text.specs.Json.{Spelt, a-value, Reads, a-null, a-true, a-false, a-number, a-string, empty-list}
 use Rattle.text.specs.Json.{some-list, empty-object, some-object}

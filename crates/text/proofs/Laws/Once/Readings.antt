@@ -2,7 +2,7 @@
 use mathlib.Core.Path.{_≡_, sym, _∙_, subst}
 use mathlib.Core.List.{List}
 use Prim.Native.Nat.{ℕ}
-use Rattle.text.specs.Base.{At}
+use Rattle.chars.specs.Base.{At}
 use Rattle.text.specs.Json.{Json, Values, Members, Piece, a-value, elements, rest, members, more, Reads}
 use Rattle.text.specs.Contents.{Ends}
 

@@ -5,7 +5,7 @@ use Prim.Native.Nat.{ℕ, zero, suc, _+_, _≤_, _<_}
 use native.Mathlib.Omega.{arith}
 use native.Mathlib.Decide.{ℕ-discrete}
 use lib.ListN.{length, getD}
-use Rattle.text.specs.Base.{At}
+use Rattle.chars.specs.Base.{At}
 use Rattle.text.specs.Json.{Values, Members, no-more, no-members, list, object, depth, depths, depthm, rest, more}
 use Rattle.text.specs.Json.{empty-list, some-list, close-list, comma-list, empty-object, some-object}
 use Rattle.text.specs.Json.{close-object, comma-object}

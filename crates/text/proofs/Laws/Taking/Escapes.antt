@@ -6,9 +6,9 @@ use Prim.Native.Nat.{ℕ, _+_, _*_, _-_, _<_}
 use native.Mathlib.Omega.{arith}
 use native.Mathlib.Decide.{decLt, ℕ-discrete}
 use lib.ListN.{length, getD, replicate}
-use Rattle.text.specs.Base.{At}
-use Rattle.text.specs.Strings.{Unit, plain, coded, Short, quote, reverse-solidus, solidus, backspace, form-feed}
-use Rattle.text.specs.Strings.{line-feed, carriage-return, tab, Hex, digit, upper, lower, Char, escaped, hexed}
+use Rattle.chars.specs.Base.{At}
+use Rattle.chars.specs.Strings.{Unit, plain, coded, Short, quote, reverse-solidus, solidus, backspace, form-feed}
+use Rattle.chars.specs.Strings.{line-feed, carriage-return, tab, Hex, digit, upper, lower, Char, escaped, hexed}
 use Rattle.text.specs.Machine.{Item, bad, hex, escape, high, move, optional}
 use Rattle.text.proofs.Laws.Places.{Alive, alive-inside}
 use Rattle.text.proofs.Laws.Parts.{spelt-one, spelt-cons}

@@ -6,7 +6,7 @@ use Prim.Native.Nat.{ℕ, zero, suc, _+_, _-_, _≤_, _<_}
 use native.Mathlib.Omega.{arith}
 use native.Mathlib.Decide.{decLt, ℕ-discrete}
 use lib.ListN.{length, getD}
-use Rattle.text.specs.Base.{In, At}
+use Rattle.chars.specs.Base.{In, At}
 use Rattle.text.specs.Json.{zero, Spelt}
 use Rattle.text.specs.Machine.{Item, pass, bad, go, byte, range, move, optional}
 use Rattle.text.proofs.Laws.Reading.{takes, refuses, passes, skips, alike}

@@ -5,9 +5,9 @@ use Prim.Native.Nat.{ℕ, _+_, _≤_, _<_}
 use native.Mathlib.Omega.{arith}
 use native.Mathlib.Decide.{decLt, ℕ-discrete}
 use lib.ListN.{length, getD}
-use Rattle.text.specs.Base.{In}
-use Rattle.text.specs.Utf8.{Sequence, Tail, two, three, four, c2-df, e0, e1-ec, ed, ee-ef, f0, f1-f3, f4}
-use Rattle.text.specs.Strings.{plain, unescaped}
+use Rattle.chars.specs.Base.{In}
+use Rattle.chars.specs.Utf8.{Sequence, Tail, two, three, four, c2-df, e0, e1-ec, ed, ee-ef, f0, f1-f3, f4}
+use Rattle.chars.specs.Strings.{plain, unescaped}
 use Rattle.text.specs.Machine.{Item, bad, go, range, char, sequence, high}
 use Rattle.text.proofs.Laws.Places.{Alive}
 use Rattle.text.proofs.Laws.Parts.{spelt-one, spelt-cons}

@@ -5,9 +5,9 @@ use Prim.Native.Nat.{ℕ, _+_, _≤_, _<_}
 use native.Mathlib.Omega.{arith}
 use native.Mathlib.Decide.{decLt, ℕ-discrete}
 use lib.ListN.{length, getD}
-use Rattle.text.specs.Base.{At}
-use Rattle.text.specs.Utf8.{Sequence, ascii, c2-df, e0, e1-ec, ed, ee-ef, f0, f1-f3, f4}
-use Rattle.text.specs.Strings.{Unit, plain, Char, unescaped, escaped, hexed, Body, end, more}
+use Rattle.chars.specs.Base.{At}
+use Rattle.chars.specs.Utf8.{Sequence, ascii, c2-df, e0, e1-ec, ed, ee-ef, f0, f1-f3, f4}
+use Rattle.chars.specs.Strings.{Unit, plain, Char, unescaped, escaped, hexed, Body, end, more}
 use Rattle.text.specs.Json.{Spelt, Quoted}
 use Rattle.text.specs.Machine.{Item, text, char, escape, optional}
 use Rattle.text.proofs.Laws.Reading.{alike}

@@ -1,9 +1,9 @@
 -- A number's first half is marked, and a text's length is not.
 use mathlib.Core.Path.{_∙_}
 use native.Mathlib.Omega.{arith}
-use Rattle.policy.proofs.Laws.Runs.{value-inside}
-use Rattle.policy.proofs.Laws.Places.{texted}
-use Rattle.policy.proofs.Laws.Parts.{text-lying, number-lying}
+use Rattle.held.proofs.Laws.Runs.{value-inside}
+use Rattle.held.proofs.Laws.Places.{texted}
+use Rattle.held.proofs.Laws.Parts.{text-lying, number-lying}
 use Rattle.writing.proofs.Laws.Lying.{body-number, body-bare, body-spelled}
 use borrow.Author.Needs.{needs}
 use Rattle.writing.proofs.entries.put_body.Statement.{statement}

@@ -3,8 +3,8 @@ use Prim.{tt}
 use mathlib.Core.Path.{refl, _∙_}
 use Prim.Native.Nat.{_+_, _-_}
 use native.Mathlib.Omega.{arith}
-use Rattle.policy.specs.Held.{heldValue}
-use Rattle.policy.proofs.Laws.Runs.{lies-inside}
+use Rattle.held.specs.Held.{heldValue}
+use Rattle.held.proofs.Laws.Runs.{lies-inside}
 use Rattle.writing.specs.Bytes.{listed, entryBytes, listBytes}
 use Rattle.writing.proofs.Laws.Showing.{adds-then}
 use Rattle.writing.proofs.Laws.Telling.{Tellings, Freely, telling-start, telling-lying, telling-next}

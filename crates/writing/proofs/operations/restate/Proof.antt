@@ -1,6 +1,6 @@
 -- The policy is refused; or the one that was read is handed out.
 use native.Mathlib.Omega.{arith}
-use Rattle.policy.specs.Held.{held}
+use Rattle.held.specs.Held.{held}
 use Rattle.policy.specs.Reading.{policyRules}
 use Rattle.decision.proofs.Laws.Operations.{answers-held, answers-refused, knows-lies}
 use Rattle.writing.specs.Operations.{policy-refused, restated}

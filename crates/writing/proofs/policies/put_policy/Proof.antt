@@ -3,13 +3,13 @@ use Prim.{tt}
 use mathlib.Core.Path.{refl, _∙_}
 use Prim.Native.Nat.{_-_}
 use native.Mathlib.Omega.{arith}
-use Rattle.policy.specs.Held.{heldStatement}
+use Rattle.held.specs.Held.{heldStatement}
 use Rattle.writing.specs.Bytes.{listed, statementBytes}
 use Rattle.writing.proofs.Laws.Showing.{adds-as, adds-then}
 use Rattle.writing.proofs.Laws.Telling.{Tellings, Freely, telling-start, telling-lying, telling-next}
 use Rattle.writing.proofs.Laws.Telling.{telling-end, list-told}
 use Rattle.writing.proofs.Laws.Lying.{listed-piece, policy-list, policy-lies}
-use Rattle.policy.proofs.Laws.Runs.{lies-inside}
+use Rattle.held.proofs.Laws.Runs.{lies-inside}
 use Rattle.writing.proofs.Laws.BytesPolicy.{policy-bytes}
 use borrow.Author.Needs.{needs}
 use Rattle.writing.proofs.policies.put_policy.Statement.{statement}

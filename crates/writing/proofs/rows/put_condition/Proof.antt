@@ -1,6 +1,6 @@
 -- A statement without rows has no such member.
 use mathlib.Core.Path.{sym, _∙_}
-use Rattle.policy.proofs.Laws.Runs.{lies-first, lies-inside}
+use Rattle.held.proofs.Laws.Runs.{lies-first, lies-inside}
 use Rattle.writing.proofs.Laws.Showing.{adds-as, adds-then}
 use Rattle.writing.proofs.Laws.Lying.{condition-none, condition-some}
 use borrow.Author.Needs.{needs}

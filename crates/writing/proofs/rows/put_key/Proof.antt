@@ -1,8 +1,8 @@
 -- The key's length stands behind the operator.
 use mathlib.Core.Path.{ap}
 use native.Mathlib.Omega.{arith}
-use Rattle.text.specs.Written.{writtenText}
-use Rattle.policy.proofs.Laws.Runs.{row-named}
+use Rattle.chars.specs.Written.{writtenText}
+use Rattle.held.proofs.Laws.Runs.{row-named}
 use Rattle.writing.proofs.Laws.Showing.{adds-as, adds-then}
 use Rattle.writing.proofs.Laws.Pieces.{name-alone}
 use borrow.Author.Needs.{needs}

@@ -1,7 +1,7 @@
 -- The list stands behind the key.
 use mathlib.Core.Path.{ap}
 use Prim.Native.Nat.{ℕ}
-use Rattle.policy.proofs.Laws.Parts.{row-inside, row-operator, row-lying, entries-lying, entries-lie}
+use Rattle.held.proofs.Laws.Parts.{row-inside, row-operator, row-lying, entries-lying, entries-lie}
 use Rattle.writing.specs.Bytes.{listBytes, rowBytes}
 use Rattle.writing.proofs.Laws.Showing.{adds-as, adds-then}
 use borrow.Author.Needs.{needs}

@@ -3,9 +3,9 @@ use Prim.{tt}
 use mathlib.Core.Path.{refl}
 use Prim.Native.Nat.{_+_, _-_}
 use native.Mathlib.Omega.{arith}
-use Rattle.policy.specs.Held.{heldRow}
-use Rattle.policy.proofs.Laws.Runs.{lies-inside}
-use Rattle.policy.proofs.Laws.Parts.{row-inside, row-operator}
+use Rattle.held.specs.Held.{heldRow}
+use Rattle.held.proofs.Laws.Runs.{lies-inside}
+use Rattle.held.proofs.Laws.Parts.{row-inside, row-operator}
 use Rattle.writing.specs.Bytes.{rowsFrom}
 use Rattle.writing.proofs.Laws.Telling.{Tellings, Freely, telling-start, telling-lying, telling-next}
 use Rattle.writing.proofs.Laws.Telling.{telling-end, list-told}

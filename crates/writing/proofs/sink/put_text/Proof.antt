@@ -1,7 +1,7 @@
 -- Each turn adds one character.
 use Prim.Native.Nat.{_-_}
 use lib.ListN.{length}
-use Rattle.text.specs.Written.{written}
+use Rattle.chars.specs.Written.{written}
 use Rattle.writing.proofs.Laws.Each.{Each, each-start, each-next, each-end, text-each}
 use borrow.Author.Needs.{needs}
 use Rattle.writing.proofs.sink.put_text.Statement.{statement}

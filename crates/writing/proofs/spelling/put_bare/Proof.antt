@@ -2,7 +2,7 @@
 use Prim.Native.Nat.{_-_}
 use mathlib.Core.Path.{ap}
 use lib.ListN.{length}
-use Rattle.text.specs.Written.{written}
+use Rattle.chars.specs.Written.{written}
 use Rattle.writing.proofs.Laws.Showing.{adds-as}
 use Rattle.writing.proofs.Laws.Each.{bareChar, Each, each-start, each-next, each-end, bare-each}
 use borrow.Author.Needs.{needs}

@@ -1,7 +1,7 @@
 -- By whether it is escaped.
 use mathlib.Core.Path.{sym, ap, _∙_}
 use borrow.Author.Tests.{not-true, not-false}
-use Rattle.text.specs.Written.{written}
+use Rattle.chars.specs.Written.{written}
 use Rattle.writing.proofs.Laws.Showing.{adds-as, adds-then}
 use Rattle.writing.proofs.Laws.Pieces.{spelling-bare, spelling-escaped}
 use borrow.Author.Needs.{needs}

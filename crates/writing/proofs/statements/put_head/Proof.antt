@@ -1,7 +1,7 @@
 -- The Sid and the effect stand first.
 use mathlib.Core.Path.{ap}
-use Rattle.policy.proofs.Laws.Parts.{statement-inside, statement-effect, statement-lying, statement-labelled}
-use Rattle.policy.proofs.Laws.Parts.{statementLabelled}
+use Rattle.held.proofs.Laws.Parts.{statement-inside, statement-effect, statement-lying, statement-labelled}
+use Rattle.held.proofs.Laws.Parts.{statementLabelled}
 use Rattle.writing.specs.Bytes.{effectBytes, headBytes}
 use Rattle.writing.proofs.Laws.Showing.{adds-as, adds-then}
 use borrow.Author.Needs.{needs}

@@ -1,8 +1,8 @@
 -- The Sid's length stands behind the effect; a Sid of no characters is none.
 use mathlib.Core.Path.{sym, ap, _∙_}
 use native.Mathlib.Omega.{arith}
-use Rattle.text.specs.Written.{writtenText}
-use Rattle.policy.proofs.Laws.Places.{labelled}
+use Rattle.chars.specs.Written.{writtenText}
+use Rattle.held.proofs.Laws.Places.{labelled}
 use Rattle.writing.proofs.Laws.Showing.{adds-as, adds-then}
 use Rattle.writing.proofs.Laws.Pieces.{sid-none, sid-some}
 use borrow.Author.Needs.{needs}

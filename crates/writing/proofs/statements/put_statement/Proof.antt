@@ -1,8 +1,8 @@
 -- The members in the order's order, from the lists as they lie one behind the other.
 use mathlib.Core.List.{map}
-use Rattle.policy.specs.Policy.{text}
-use Rattle.policy.proofs.Laws.Parts.{statement-lying, texts-values, actions-lie, actions-values, resources-lie}
-use Rattle.policy.proofs.Laws.Parts.{resources-values, rows-lie, statement-rows}
+use Rattle.syntax.specs.Policy.{text}
+use Rattle.held.proofs.Laws.Parts.{statement-lying, texts-values, actions-lie, actions-values, resources-lie}
+use Rattle.held.proofs.Laws.Parts.{resources-values, rows-lie, statement-rows}
 use Rattle.writing.specs.Bytes.{statementBytes}
 use Rattle.writing.proofs.Laws.Showing.{adds-as, adds-then}
 use Rattle.writing.proofs.Laws.Pieces.{head-before}

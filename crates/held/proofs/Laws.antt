@@ -1,0 +1,7 @@
+pub mod Runs
+pub mod RunsWalk
+pub mod RunsStatement
+pub mod Places
+pub mod Coming
+pub mod Parts
+pub mod Requests

@@ -1,0 +1,2 @@
+-- Laws for holding a record.
+pub mod Lying

@@ -1,0 +1,34 @@
+-- Lying: what lies in a held run, for whoever walks over it.
+--   Lies run p xs     the numbers xs lie in the run from place p on
+--   Lying, LyingMany  a thing lies there, or n things one behind the other, each held by h
+--   Passes ..         a walk over things: the place behind them, how many entries they have, whether a limit is passed
+use mathlib.Core.Path.{_≡_}
+use mathlib.Core.Bool.{Bool}
+use mathlib.Core.List.{List, _++_}
+use Prim.Native.Nat.{ℕ, _+_, _≤_}
+use lib.ListN.{length, drop}
+use Rattle.syntax.specs.Limits.{runNumbers}
+use Rattle.held.specs.Held.{heldEach}
+use Rattle.held.specs.declared.runs.Seen.{Seen}
+
+pub record Lies (run : List ℕ) (p : ℕ) (xs : List ℕ) : Type 0 where
+  pub behind : List ℕ
+  pub is : drop p run ≡ xs ++ behind
+  pub within : p ≤ length run
+  pub bounded : length run ≤ runNumbers
+
+-- a thing lies at p, held by h
+pub record Lying {A : Type 0} (h : A → List ℕ) (run : List ℕ) (p : ℕ) : Type 0 where
+  pub thing : A
+  pub lies : Lies run p (h thing)
+
+-- n things lie at p, each held by h
+pub record LyingMany {A : Type 0} (h : A → List ℕ) (run : List ℕ) (p n : ℕ) : Type 0 where
+  pub things : List A
+  pub count : n ≡ length things
+  pub lies : Lies run p (heldEach h things)
+
+pub record Passes (p : ℕ) (xs : List ℕ) (entries : ℕ) (over : Bool) (r : Seen) : Type 0 where
+  pub past : r .past ≡ p + length xs
+  pub many : r .entries ≡ entries
+  pub limit : r .over ≡ over

@@ -1,0 +1,16 @@
+pub mod Slots
+pub mod Walking
+pub mod Extends
+pub mod Holding
+pub mod Spoken
+pub mod Formed
+pub mod Room
+pub mod Converted
+pub mod Halves
+pub mod Values
+pub mod Differ
+pub mod Sofar
+pub mod Several
+pub mod Gathering
+pub mod Fits
+pub mod Requests

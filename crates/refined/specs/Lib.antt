@@ -1,0 +1,3 @@
+-- What the contracts of `refined` cite.
+pub mod Finishing
+pub mod Keeping

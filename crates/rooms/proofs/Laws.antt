@@ -1,0 +1,13 @@
+pub mod Handling
+pub mod HandlingRows
+pub mod Walking
+pub mod WalkingRows
+pub mod Listing
+pub mod ListingValues
+pub mod ListingWalk
+pub mod ListingStatement
+pub mod ListingTurns
+pub mod ListingParts
+pub mod Lengths
+pub mod Fed
+pub mod Empty

@@ -1,0 +1,4 @@
+-- What the contracts of `rooms` cite.
+pub mod Rooms
+pub mod Listing
+pub mod Walking

@@ -1,0 +1,3 @@
+-- Laws of `syntax`'s definitions, which the proofs of its functions and of the crates above cite.
+pub mod Laws
+mod Trials

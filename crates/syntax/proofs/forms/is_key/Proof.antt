@@ -1,0 +1,73 @@
+-- Every character passed belongs to a key.
+use mathlib.Core.Path.{_≡_, sym, _∙_}
+use Prim.Native.Nat.{_-_}
+use lib.ListN.{length, drop}
+use Rattle.syntax.specs.Forms.{all, isKey, isKeyChar}
+use Rattle.syntax.proofs.Laws.Forms.{key-none, key-some, all-next, all-stop, all-end}
+use borrow.Author.Tests.{not-true, not-false}
+use borrow.Author.Needs.{needs}
+use Rattle.syntax.proofs.forms.is_key.Statement.{statement}
+use Rattle.syntax.proofs.forms.is_key.Tie as tie
+
+abbrev Inv-loop : tie.InvT-loop
+Inv-loop cs i₀ i = isKey cs ≡ all isKeyChar (drop i cs)
+
+abbrev μ-loop : tie.MeasureT-loop
+μ-loop cs i₀ i = length cs - i
+
+returns : tie.Need-returns Inv-loop μ-loop
+returns c = sym (key-none (c .before .before .args .cs .now) (c .if1 .taken))
+
+loop-holds : tie.Need-loop-holds Inv-loop μ-loop
+loop-holds c = key-some (c .before .before .args .cs .now) (c .if1 .left)
+
+mul-is-key-char : tie.Need-mul-is-key-char Inv-loop μ-loop
+mul-is-key-char c = search needs
+
+shared-slice-read-is-key-char : tie.Need-shared-slice-read-is-key-char Inv-loop μ-loop
+shared-slice-read-is-key-char c = search needs
+
+is-key-char-requires : tie.Need-is-key-char-requires Inv-loop μ-loop
+is-key-char-requires c κs = search needs
+
+returns-2 : tie.Need-returns-2 Inv-loop μ-loop
+returns-2 c =
+    let turn = c .before .before .before in
+    let cs = turn .before .before .before .before .args .cs .now in
+    sym (turn .before .loop .inv ∙ all-stop isKeyChar cs (turn .before .loop .i) (turn .loop-test .taken)
+    (sym (c .before .is-key-char .ensures) ∙ not-true _ (c .if2 .taken)))
+
+add-i : tie.Need-add-i Inv-loop μ-loop
+add-i c = search needs
+
+loop-less : tie.Need-loop-less Inv-loop μ-loop
+loop-less c = search needs
+
+loop-again : tie.Need-loop-again Inv-loop μ-loop
+loop-again c =
+    let turn = c .before .before .before in
+    let cs = turn .before .before .before .before .args .cs .now in
+    turn .before .loop .inv ∙ all-next isKeyChar cs (turn .before .loop .i) (turn .loop-test .taken)
+    (sym (c .before .is-key-char .ensures) ∙ not-false _ (c .if2 .left))
+
+returns-3 : tie.Need-returns-3 Inv-loop μ-loop
+returns-3 c =
+    let cs = c .before .before .before .before .args .cs .now in
+    sym (c .before .loop .inv ∙ all-end isKeyChar cs (c .before .loop .i) (c .loop-test .left))
+
+pub is-key-spec : {M : Type 1} → statement M
+is-key-spec =
+    tie.close
+    (tie.spec
+    Inv-loop
+    μ-loop
+    returns
+    loop-holds
+    mul-is-key-char
+    shared-slice-read-is-key-char
+    is-key-char-requires
+    returns-2
+    add-i
+    loop-less
+    loop-again
+    returns-3)
