@@ -226,13 +226,27 @@ pub fn decode(s: &[u8], out: &mut [u32]) -> Decoded
     }
 }
 
-// Are the characters of the bytes between two quotes these ASCII bytes?
+// Are the characters of the bytes between two quotes these ASCII bytes? ASCII that is no escape takes the short way.
 pub fn same(s: &[u8], w: &[u8]) -> bool
     ensures { λ r. ⌜ r ≡ sameText (textOf (now (s .entry))) (now (w .entry)) ⌝ }
 {
     let mut i = 0;
     let mut j = 0;
     while i < s.len() {
+        let b = s[i];
+        if b < 128 {
+            if b != 92 {
+                if w.len() <= j {
+                    return false;
+                }
+                if b != w[j] {
+                    return false;
+                }
+                j += 1;
+                i += 1;
+                continue;
+            }
+        }
         let x = first(&s[i..]);
         match x {
             Step::Char { c, more } => {

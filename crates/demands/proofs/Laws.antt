@@ -12,3 +12,8 @@ pub mod ValidLists
 pub mod ValidPolicy
 pub mod Again
 pub mod Trials
+pub mod ImitationTexts
+pub mod ImitationRooms
+pub mod ImitationInputs
+pub mod ImitationLeft
+pub mod Imitations

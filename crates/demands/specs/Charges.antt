@@ -1,29 +1,20 @@
 -- Charges: what a log's records charge to each entry of a policy.
---   foundAt k fs         the value charged to the k-th slot;  rowAt k room   its row;  At k ss s   it is the slot s
+--   At k ss s            the k-th slot is s
 --   Charged p log k v    a record of the log charges the value v to the k-th entry of p
 --   HeldLeast            each row of a room that comes of a log holds the least candidate of what the log charges to its
 --                        entry, and nothing where it charges nothing
 --   NoNarrower           no candidate of the entry that covers what was charged matches less
 use mathlib.Core.Path.{_≡_}
 use mathlib.Core.Bool.{true}
-use mathlib.Core.List.{List, [], _∷_, List·Memᴰ}
-use Prim.Native.Nat.{ℕ, zero, suc, _*_}
-use lib.ListN.{take, drop}
+use mathlib.Core.List.{List, _∷_, List·Memᴰ}
+use Prim.Native.Nat.{ℕ, suc}
 use Rattle.syntax.specs.Policy.{Value, Policy, Request}
 use Rattle.policy.specs.Reading.{known, policyRules, recordRules, Says}
-use Rattle.decision.specs.Decision.{Found, nothing, found}
+use Rattle.decision.specs.Decision.{found}
 use Rattle.candidates.specs.Candidates.{Candidate, holds, Covers, Under, Holds}
-use Rattle.candidates.specs.Rows.{rowNumbers, contentOf}
-use Rattle.rooms.specs.Rooms.{Slot, slotKind, slots, charges}
+use Rattle.candidates.specs.Rows.{contentOf}
+use Rattle.rooms.specs.Rooms.{Slot, slotKind, slots, charges, foundAt, rowAt}
 use Rattle.demands.specs.Logs.{Bytes, Comes}
-
-unfoldable pub foundAt : ℕ → List Found → Found
-foundAt k [] = nothing
-foundAt zero (f ∷ fs) = f
-foundAt (suc k) (f ∷ fs) = foundAt k fs
-
-abbrev pub rowAt : ℕ → List ℕ → List ℕ
-rowAt k room = take rowNumbers (drop (rowNumbers * k) room)
 
 pub data At : ℕ → List Slot → Slot → Type 0 where
   here : {s : Slot} {ss : List Slot} → At 0 (s ∷ ss) s

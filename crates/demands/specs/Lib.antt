@@ -5,3 +5,4 @@ pub mod Narrowing
 pub mod Outcomes
 pub mod Again
 pub mod Trials
+pub mod Imitations

@@ -13,7 +13,7 @@ use Rattle.chars.specs.Base.{pick}
 use Rattle.text.specs.Json.{Json, levels}
 use Rattle.text.specs.Verdicts.{Text, BreaksAt, Sinks}
 use Rattle.text.specs.Machine.{verdict}
-use Rattle.text.specs.declared.scan.Verdict.the-variants.{Whole}
+use Rattle.text.specs.declared.verdict.Verdict.the-variants.{Whole}
 use Rattle.syntax.specs.Limits.{policyBytes, recordBytes, runNumbers}
 use Rattle.syntax.specs.Policy.{Policy, Request}
 use Rattle.syntax.specs.Forms.{Reading, wrong, read}

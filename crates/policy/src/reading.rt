@@ -9,7 +9,7 @@ use held::limits;
 use held::runs;
 use parts::holding::Held;
 use text::scan;
-use text::scan::Verdict;
+use text::verdict::Verdict;
 use text::walk;
 
 // What was read lies at the run's beginning, up to this place; or a refusal.

@@ -3,12 +3,12 @@
 --   slots p         the entries of a policy in reading order, each with its place and its statement's effect
 --   fits ss xs      the numbers xs are rows that the slots can have, and zeros behind them; where not, 6 is given
 --   charges p r     for each slot the value that the request r charges to it, if it does
---   fed ss vs xs    the rows xs once the values vs are charged
+--   fed ss vs xs    the rows xs once the values vs are charged;  foundAt k vs, rowAt k xs   of the k-th slot
 --   met ss xs ys    the rows of two rooms, joined row by row
 -- Differs from 01: nowhere.
 use mathlib.Core.Bool.{Bool, true, false}
 use mathlib.Core.List.{List, [], _∷_, _++_, map}
-use Prim.Native.Nat.{ℕ}
+use Prim.Native.Nat.{ℕ, zero, suc, _*_}
 use lib.ListN.{take, drop}
 use Rattle.chars.specs.Base.{pick}
 use Rattle.syntax.specs.Forms.{both}
@@ -106,6 +106,15 @@ unfoldable pub fed : List Slot → List Found → List ℕ → List ℕ
 fed [] vs xs = xs
 fed (s ∷ ss) [] xs = xs
 fed (s ∷ ss) (v ∷ vs) xs = rowFed s v (take rowNumbers xs) ++ fed ss vs (drop rowNumbers xs)
+
+-- the value charged to the k-th slot, and that slot's row
+unfoldable pub foundAt : ℕ → List Found → Found
+foundAt k [] = nothing
+foundAt zero (f ∷ fs) = f
+foundAt (suc k) (f ∷ fs) = foundAt k fs
+
+abbrev pub rowAt : ℕ → List ℕ → List ℕ
+rowAt k room = take rowNumbers (drop (rowNumbers * k) room)
 
 -- ---- joining
 

@@ -11,8 +11,8 @@ use Rattle.chars.specs.Decoding.{Text, lone, equal, textOf, meaning, unitsBehin
 use Rattle.chars.specs.Decoding.{hexOf, codeAt, letterOf}
 use Rattle.chars.specs.Written.{coded, written, writtenText}
 use Rattle.chars.specs.Lines.{unbroken, lineAt}
-use Rattle.text.specs.declared.scan.Verdict.{Verdict}
-use Rattle.text.specs.declared.scan.Verdict.the-variants.{Whole, Breaks, Deep}
+use Rattle.text.specs.declared.verdict.Verdict.{Verdict}
+use Rattle.text.specs.declared.verdict.Verdict.the-variants.{Whole, Breaks, Deep}
 use Rattle.chars.specs.declared.lines.Line.{Line}
 use Rattle.chars.specs.declared.lines.Line.the-variants.{Here, None}
 use Rattle.chars.proofs.Laws.Strings.{said}

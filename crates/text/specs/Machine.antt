@@ -12,8 +12,8 @@ use Rattle.chars.specs.Base.{pick, within, oneOf}
 use Rattle.text.specs.Json.{levels}
 use Rattle.text.specs.declared.scan.Shape.{Shape}
 use Rattle.text.specs.declared.scan.Shape.the-variants.{List as list, Object as object}
-use Rattle.text.specs.declared.scan.Verdict.{Verdict}
-use Rattle.text.specs.declared.scan.Verdict.the-variants.{Whole, Breaks, Deep}
+use Rattle.text.specs.declared.verdict.Verdict.{Verdict}
+use Rattle.text.specs.declared.verdict.Verdict.the-variants.{Whole, Breaks, Deep}
 
 pub data Item : Type 0 where
   -- white space of any length; this byte; a byte from the first to the second; a hexadecimal digit

@@ -9,10 +9,10 @@ use mathlib.Core.List.{List, [], _∷_, _++_}
 use Prim.Native.Nat.{ℕ, _-_, _≤_, _<_}
 use lib.ListN.{length}
 use Rattle.text.specs.Machine.{Item, pass, go, ws, value, first, next, inner, move, from}
-use Rattle.text.specs.declared.scan.Verdict.{Verdict}
-use Rattle.text.specs.declared.scan.Verdict.the-variants.{Whole, Breaks, Deep}
-use Rattle.text.specs.declared.scan.Part.{Part}
-use Rattle.text.specs.declared.scan.Part.the-variants.{Past, Fails}
+use Rattle.text.specs.declared.verdict.Verdict.{Verdict}
+use Rattle.text.specs.declared.verdict.Verdict.the-variants.{Whole, Breaks, Deep}
+use Rattle.text.specs.declared.verdict.Part.{Part}
+use Rattle.text.specs.declared.verdict.Part.the-variants.{Past, Fails}
 use Rattle.text.specs.declared.scan.Shape.{Shape}
 use Rattle.text.specs.declared.scan.Begun.{Begun}
 use Rattle.text.specs.declared.scan.Begun.the-variants.{Ends, Inner}

@@ -1,3 +1,6 @@
 // Text: bytes to a JSON text and its contents. Knows no policy, no record and no refusal number.
+pub mod numbers;
+pub mod quoted;
 pub mod scan;
+pub mod verdict;
 pub mod walk;

@@ -7,9 +7,10 @@ ghost use Rattle.text.specs.Machine.{verdict};
 ghost use Rattle.text.specs.Contents.{Stands, Rest, Others, Standing, StandingText, StandingList};
 ghost use Rattle.text.specs.Contents.{StandingObject, Resting, Continuing, kindOf, Raw, Comes, Leads, Rooted};
 ghost use Rattle.text.specs.Contents.{Entry, Entering};
-ghost use Rattle.text.specs.declared.scan.Verdict.the-variants.{Whole};
+ghost use Rattle.text.specs.declared.verdict.Verdict.the-variants.{Whole};
+use crate::quoted;
 use crate::scan;
-use crate::scan::Part;
+use crate::verdict::Part;
 
 // What kind of value stands at a place.
 pub enum Kind {
@@ -87,7 +88,7 @@ pub fn quoted(s: &[u8], v: usize) -> Span
     ensures { λ r. ⌜ ((w : List ℕ) (e : ℕ) → Stands (now (s .entry)) (string w) v e → Raw (now (s .entry)) w e r) ⌝ }
 {
     let from = v + 1;
-    let r = scan::string(s, from);
+    let r = quoted::string(s, from);
     match r {
         Part::Past(q) => Span {
             from: from,
@@ -129,7 +130,7 @@ fn entry(s: &[u8], i: usize) -> Member
     requires { ⌜ Entering (now s) i ⌝ }
     ensures { λ r. ⌜ ((ms : Members) (e : ℕ) → Entry (now (s .entry)) ms i e → Leads (now (s .entry)) i ms e r) ⌝ }
 {
-    let r = scan::string(s, i + 1);
+    let r = quoted::string(s, i + 1);
     match r {
         Part::Past(q) => {
             let c = scan::space(s, q);

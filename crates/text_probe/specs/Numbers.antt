@@ -9,8 +9,8 @@ use Rattle.text.specs.Machine.{verdict}
 use Rattle.chars.specs.Decoding.{textOf, decodedOf}
 use Rattle.chars.specs.Putting.{lay}
 use Rattle.chars.specs.Written.{writtenText, writeOf}
-use Rattle.text.specs.declared.scan.Verdict.{Verdict}
-use Rattle.text.specs.declared.scan.Verdict.the-variants.{Whole, Breaks, Deep}
+use Rattle.text.specs.declared.verdict.Verdict.{Verdict}
+use Rattle.text.specs.declared.verdict.Verdict.the-variants.{Whole, Breaks, Deep}
 use Rattle.chars.specs.declared.strings.Decoded.{Decoded}
 use Rattle.chars.specs.declared.strings.Decoded.the-variants as D
 use Rattle.chars.specs.declared.written.Written.{Written}

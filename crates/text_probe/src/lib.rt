@@ -6,7 +6,7 @@ use chars::strings::Decoded;
 use chars::written;
 use chars::written::Written;
 use text::scan;
-use text::scan::Verdict;
+use text::verdict::Verdict;
 
 // Which answer it is, and the number that it holds, or 0 where it holds none.
 #[repr(C)]

@@ -5,7 +5,7 @@ ghost use Prim.Native.Nat.{_<_, _≤_};
 use chars::lines::Line;
 use chars::strings::Decoded;
 use chars::written::Written;
-use text::scan::Verdict;
+use text::verdict::Verdict;
 
 // A hexadecimal digit's number.
 fn digit(b: u8) -> u8

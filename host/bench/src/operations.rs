@@ -98,83 +98,54 @@ fn rooms_for(operation: &str, fed: impl FnOnce() -> Rooms) -> Rooms {
     }
 }
 
-fn proved_rooms(log: &Log) -> Rooms {
-    rooms(log, |record, room| {
-        muckposy::feed(&log.policy, record, room).expect("a record");
-    })
+/// The operations of a library that reads everything at each call.
+macro_rules! calls {
+    ($library:ident, $rooms:ident, $kernel:ident) => {
+        fn $rooms(log: &Log) -> Rooms {
+            rooms(log, |record, room| {
+                $library::feed(&log.policy, record, room).expect("a record");
+            })
+        }
+
+        fn $kernel(operation: &str, log: Log) -> Repeat {
+            let (mut room, other) = rooms_for(operation, || $rooms(&log));
+            let mut output = vec![0; RESULT];
+            let Log {
+                policy, records, ..
+            } = log;
+            match operation {
+                "decide" => Box::new(move |count| {
+                    each(&records, count, |record| {
+                        $library::decide(black_box(&policy), record)
+                    });
+                }),
+                "feed" => Box::new(move |count| {
+                    each(&records, count, |record| {
+                        $library::feed(black_box(&policy), record, &mut room)
+                    });
+                }),
+                "join" => Box::new(move |count| {
+                    times(count, || {
+                        $library::join(black_box(&policy), &mut room, black_box(&other))
+                    });
+                }),
+                "finish" => Box::new(move |count| {
+                    times(count, || {
+                        $library::finish(black_box(&policy), black_box(&room), &mut output)
+                    });
+                }),
+                _ => Box::new(move |count| {
+                    times(count, || {
+                        $library::restate(black_box(&policy), &mut output)
+                    });
+                }),
+            }
+        }
+    };
 }
 
-fn second_rooms(log: &Log) -> Rooms {
-    rooms(log, |record, room| {
-        second::feed(&log.policy, record, room).expect("a record");
-    })
-}
-
-fn proved(operation: &str, log: Log) -> Repeat {
-    let (mut room, other) = rooms_for(operation, || proved_rooms(&log));
-    let mut output = vec![0; RESULT];
-    let Log {
-        policy, records, ..
-    } = log;
-    match operation {
-        "decide" => Box::new(move |count| {
-            each(&records, count, |record| {
-                muckposy::decide(black_box(&policy), record)
-            });
-        }),
-        "feed" => Box::new(move |count| {
-            each(&records, count, |record| {
-                muckposy::feed(black_box(&policy), record, &mut room)
-            });
-        }),
-        "join" => Box::new(move |count| {
-            times(count, || {
-                muckposy::join(black_box(&policy), &mut room, black_box(&other))
-            });
-        }),
-        "finish" => Box::new(move |count| {
-            times(count, || {
-                muckposy::finish(black_box(&policy), black_box(&room), &mut output)
-            });
-        }),
-        _ => Box::new(move |count| {
-            times(count, || muckposy::restate(black_box(&policy), &mut output));
-        }),
-    }
-}
-
-fn second(operation: &str, log: Log) -> Repeat {
-    let (mut room, other) = rooms_for(operation, || second_rooms(&log));
-    let mut output = vec![0; RESULT];
-    let Log {
-        policy, records, ..
-    } = log;
-    match operation {
-        "decide" => Box::new(move |count| {
-            each(&records, count, |record| {
-                second::decide(black_box(&policy), record)
-            });
-        }),
-        "feed" => Box::new(move |count| {
-            each(&records, count, |record| {
-                second::feed(black_box(&policy), record, &mut room)
-            });
-        }),
-        "join" => Box::new(move |count| {
-            times(count, || {
-                second::join(black_box(&policy), &mut room, black_box(&other))
-            });
-        }),
-        "finish" => Box::new(move |count| {
-            times(count, || {
-                second::finish(black_box(&policy), black_box(&room), &mut output)
-            });
-        }),
-        _ => Box::new(move |count| {
-            times(count, || second::restate(black_box(&policy), &mut output));
-        }),
-    }
-}
+calls!(muckposy, proved_rooms, proved);
+calls!(second, second_rooms, second);
 
 fn desk(operation: &str, log: Log) -> Repeat {
     let (mut room, other) = rooms_for(operation, || second_rooms(&log));

@@ -11,6 +11,7 @@ use lib.ListN.{drop-of-length-le}
 use lib.Seq.{set-append-seam, set-at, take-suc, drop-cons, drop-length, take-all, length-take-le}
 use borrow.Author.Tests.{eq-eqb, ne-eqb, eqb-true}
 use Rattle.chars.specs.Base.{pick}
+use Rattle.chars.proofs.Laws.Tests.{each-true}
 use Rattle.candidates.specs.Rows.{rowNumbers, padded, isZero}
 
 -- ---- stored behind what is there
@@ -141,17 +142,13 @@ zero-past row i h e =
     ∙ ap (λ (b : Bool). pick b (isZero (drop (suc i) row)) false) (sym (eq-eqb (getD row i 0) 0 e))
     ∙ ap isZero (sym (drop-cons row i 0 h))
 
-and-true : (t u : Bool) → (t && u) ≡ true → (t ≡ true) × (u ≡ true)
-and-true true u h = (refl, h)
-and-true false u h = let z : _≡_ {A = Bool} false true = h in (z, cc)
-
 -- one more of eight
 pub eight-next :
     (row : List ℕ) (at j : ℕ) (z : Bool) → (z ≡ true → isZero (drop (at + j) row) ≡ isZero (drop at row))
     → at + j < length row → (z && eqb (getD row (at + j) 0) 0) ≡ true
     → isZero (drop (at + (j + 1)) row) ≡ isZero (drop at row)
 eight-next row at j z w h e =
-    let b = and-true z (eqb (getD row (at + j) 0) 0) e in
+    let b = each-true z (eqb (getD row (at + j) 0) 0) e in
     let k : at + (j + 1) ≡ at + j + 1 = omega arith in
     ap (λ (n : ℕ). isZero (drop n row)) k
     ∙ zero-past row (at + j) h (eqb-true (getD row (at + j) 0) 0 (b .1)) ∙ w (b .0)

@@ -1,6 +1,6 @@
 -- What the tests of specs/Base come to, from facts about the numbers.
 use mathlib.Core.Path.{_≡_, refl}
-use mathlib.Core.Bool.{Bool, true, false}
+use mathlib.Core.Bool.{Bool, true, false, _||_, _&&_}
 use mathlib.Core.Logic.{inl, inr}
 use mathlib.Core.List.{List, [], _∷_}
 use Prim.Native.Nat.{ℕ, _≤_, _<_}
@@ -39,3 +39,12 @@ unfolding oneOf
 outside [] b h = refl
 outside (x ∷ []) b h = simp (ne-eqb b x h)
 outside (x ∷ y ∷ xs) b h = rw (ne-eqb b x (λ e. h (inl e))) (outside (y ∷ xs) b (λ e. h (inr e)))
+
+-- tests made one of several without branches
+pub neither : (t u : Bool) → (t || u) ≡ false → (t ≡ false) × (u ≡ false)
+neither true u h = let z : _≡_ {A = Bool} true false = h in (z, cc)
+neither false u h = (refl, h)
+
+pub each-true : (t u : Bool) → (t && u) ≡ true → (t ≡ true) × (u ≡ true)
+each-true true u h = (refl, h)
+each-true false u h = let z : _≡_ {A = Bool} false true = h in (z, cc)

@@ -21,7 +21,7 @@ use Rattle.candidates.specs.Rows.{rowNumbers, contentOf}
 use Rattle.rooms.specs.Rooms.{Slot, slotKind, slotsAt, hit, hits}
 use Rattle.refined.specs.Finishing.{keptBy, kept, behind}
 use Rattle.candidates.proofs.Laws.Refined.{refines}
-use Rattle.demands.specs.Charges.{foundAt}
+use Rattle.rooms.specs.Rooms.{foundAt}
 use Rattle.demands.proofs.Laws.Rooms.{Charging, RowsHold}
 use Rattle.demands.proofs.Laws.Narrowing.{any, either-right}
 

@@ -23,7 +23,8 @@ use Rattle.rooms.specs.Rooms.{isCharged, statementCharges, allowedCharges, byDe
 use Rattle.refined.specs.Finishing.{kept, behind, textOf, keptTexts, keptRows, hasSome, allSome, isWhole, keptStatement}
 use Rattle.refined.specs.Finishing.{leftBy, refinedPolicy}
 use Rattle.demands.specs.Logs.{Bytes, Comes}
-use Rattle.demands.specs.Charges.{foundAt, Charged}
+use Rattle.rooms.specs.Rooms.{foundAt}
+use Rattle.demands.specs.Charges.{Charged}
 use Rattle.demands.specs.Narrowing.{isAllowed}
 use Rattle.demands.specs.Narrowing as N
 use Rattle.demands.proofs.Laws.Rooms.{RowsHold, rows-fit}

@@ -27,7 +27,8 @@ use Rattle.refine.proofs.Laws.Held.{sound-read, rows-enough, room-size, right-c
 use Rattle.refine.proofs.Laws.Operations.{finishes-unique}
 use Rattle.demands.specs.Logs.{Bytes, emptyRoom, Walks, walked, Comes, SameRecords, SameRoom, SameResult}
 use Rattle.demands.specs.Logs as L
-use Rattle.demands.specs.Charges.{foundAt, Charged}
+use Rattle.rooms.specs.Rooms.{foundAt}
+use Rattle.demands.specs.Charges.{Charged}
 use Rattle.demands.proofs.Laws.Rooms.{Charging, RowsHold, rows-fit, rows-alike, rows-fed, rows-met, rows-empty}
 use Rattle.demands.proofs.Laws.Rooms.{rows-same, fed-length, met-length}
 use Rattle.demands.proofs.Laws.Rows.{And}

@@ -19,7 +19,8 @@ use Rattle.candidates.specs.Candidates as C
 use Rattle.candidates.specs.Rows.{rowNumbers, padded, row, isZero}
 use Rattle.rooms.specs.Rooms.{Slot, rowFits, fits, rowFed, fed, rowMet, met}
 use Rattle.rooms.specs.Walking.{RightAt, Right, all-right, one-right}
-use Rattle.demands.specs.Charges.{foundAt, rowAt, At, here, there}
+use Rattle.rooms.specs.Rooms.{foundAt, rowAt}
+use Rattle.demands.specs.Charges.{At, here, there}
 use Rattle.demands.proofs.Laws.Rows.{RowHolds, empty-holds, And, row-fed, row-met, row-same, row-alike}
 use Rattle.rooms.proofs.Laws.HandlingRows.{zero-first}
 use Rattle.rooms.proofs.Laws.Empty.{zeros, zeros-zero, zeros-parted, empty-row}

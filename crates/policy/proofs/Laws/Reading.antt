@@ -14,8 +14,8 @@ use Rattle.text.specs.Json.{Json, levels, JsonText}
 use Rattle.text.specs.Verdicts.{Text, BreaksAt, Sinks, Means}
 use Rattle.text.specs.Machine.{verdict}
 use Rattle.text.specs.Contents.{Stands, Rooted}
-use Rattle.text.specs.declared.scan.Verdict.{Verdict}
-use Rattle.text.specs.declared.scan.Verdict.the-variants.{Whole, Breaks, Deep}
+use Rattle.text.specs.declared.verdict.Verdict.{Verdict}
+use Rattle.text.specs.declared.verdict.Verdict.the-variants.{Whole, Breaks, Deep}
 use Rattle.text.proofs.Laws.Meaning.{verdict-means, verdict-unique}
 use Rattle.text.proofs.Laws.Contents.{contents, contents-is, contents-says, stands-done, stands-unique}
 use Rattle.syntax.specs.Policy.{Policy, Request}

@@ -20,7 +20,7 @@ use Rattle.candidates.specs.Kinds.{only, never, bounds, textOf, oneText}
 use Rattle.candidates.specs.Entries.{Place, before, legalBeginning, wildKind}
 use Rattle.candidates.specs.Rows.{rowNumbers, textCharacters, padded, row, contentOf}
 use Rattle.candidates.specs.Joining.{Textual, no-text, whole-text, one-text, begun-text, Numeric, no-number, one-number}
-use Rattle.rooms.specs.Rooms.{Slot, slotKind, slots, charges, rowFits, fits, rowFed, fed}
+use Rattle.rooms.specs.Rooms.{Slot, slotKind, slots, charges, rowFits, fits, rowFed, fed, foundAt, rowAt}
 use Rattle.rooms.specs.Walking.{Chargeable, RightAt, Right, all-right, one-right}
 use Rattle.candidates.proofs.Laws.Bounding.{counted, counted-size}
 use Rattle.candidates.proofs.Laws.ChargingLeast.{mark-row}
@@ -119,15 +119,6 @@ fed-size s nothing xs n r f = n
 fed-size s (found y) xs n r f = charged-size s y xs n r f
 
 -- ---- only the rows that were charged
-
--- the value charged to the k-th slot
-unfoldable pub foundAt : ℕ → List Found → Found
-foundAt k [] = nothing
-foundAt zero (g ∷ fs) = g
-foundAt (suc k) (g ∷ fs) = foundAt k fs
-
-abbrev pub rowAt : ℕ → List ℕ → List ℕ
-rowAt k room = take rowNumbers (drop (rowNumbers * k) room)
 
 next-row : (k : ℕ) (xs ys : List ℕ) → length xs ≡ rowNumbers
     → drop (rowNumbers * suc k) (xs ++ ys) ≡ drop (rowNumbers * k) ys

@@ -16,7 +16,7 @@ use Rattle.text.specs.Machine.{Item, Move, pass, go, ws, byte, text, val
 use Rattle.text.specs.Machine.{feed, ends, verdictAt}
 use Rattle.text.specs.Machine as M
 use Rattle.text.specs.Reading.{Done}
-use Rattle.text.specs.declared.scan.Verdict.the-variants.{Whole}
+use Rattle.text.specs.declared.verdict.Verdict.the-variants.{Whole}
 use Rattle.text.specs.declared.scan.Shape.{Shape}
 use Rattle.text.specs.declared.scan.Shape.the-variants.{List as a-list, Object as an-object}
 use Rattle.text.proofs.Laws.Reading.{takes-at, seq, frame, alike, from-empty}

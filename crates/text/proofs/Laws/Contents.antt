@@ -11,8 +11,8 @@ use Rattle.text.specs.Machine.{Item, ws, byte, text, value, verdict}
 use Rattle.text.specs.Reading.{Done, Falls}
 use Rattle.text.specs.Verdicts.{Text}
 use Rattle.text.specs.Contents.{Stands, Rest, Others, Raw, Rooted}
-use Rattle.text.specs.declared.scan.Verdict.{Verdict}
-use Rattle.text.specs.declared.scan.Verdict.the-variants.{Whole, Breaks, Deep}
+use Rattle.text.specs.declared.verdict.Verdict.{Verdict}
+use Rattle.text.specs.declared.verdict.Verdict.the-variants.{Whole, Breaks, Deep}
 use Rattle.text.proofs.Laws.Reading.{fall-frame}
 use Rattle.text.proofs.Laws.Places.{done-alive, alive-fall, done-unique, not-whole}
 use Rattle.text.proofs.Laws.Ends.{ends-after}

@@ -13,8 +13,8 @@ use Rattle.text.specs.Machine.{high, leads, owing, opens, move-integer, 
 use Rattle.text.specs.Machine.{optional, onto, feed, ends, after, run, from, verdictAt}
 use Rattle.text.specs.declared.scan.Shape.{Shape}
 use Rattle.text.specs.declared.scan.Shape.the-variants.{List as list, Object as object}
-use Rattle.text.specs.declared.scan.Verdict.{Verdict}
-use Rattle.text.specs.declared.scan.Verdict.the-variants.{Deep}
+use Rattle.text.specs.declared.verdict.Verdict.{Verdict}
+use Rattle.text.specs.declared.verdict.Verdict.the-variants.{Deep}
 use Rattle.text.proofs.Laws.Moves.Values.{first-close}
 use Rattle.text.proofs.Laws.Live.{Lax, l-ws, l-digits, l-fraction, l-exponent, Shut, s-byte, s-range, s-hex}
 use Rattle.text.proofs.Laws.Live.{s-text, s-escape, s-digit, s-sign, s-first, s-next, Calm, calm-close}

@@ -12,7 +12,7 @@ use Rattle.text.specs.Machine.{exponent, sign, value, first, next, close
 use Rattle.text.specs.Machine.{feed, ends, run}
 use Rattle.text.specs.declared.scan.Shape.{Shape}
 use Rattle.text.specs.declared.scan.Shape.the-variants.{List as list, Object as object}
-use Rattle.text.specs.declared.scan.Verdict.the-variants.{Whole}
+use Rattle.text.specs.declared.verdict.Verdict.the-variants.{Whole}
 use Rattle.text.proofs.Laws.Moves.Bytes.{byte-is}
 use Rattle.text.proofs.Laws.Moves.Values.{first-close, next-close}
 

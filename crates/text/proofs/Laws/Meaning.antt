@@ -4,7 +4,7 @@ use mathlib.Core.List.{List}
 use Prim.Native.Nat.{ℕ}
 use Rattle.text.specs.Machine.{verdict}
 use Rattle.text.specs.Verdicts.{Means}
-use Rattle.text.specs.declared.scan.Verdict.{Verdict}
+use Rattle.text.specs.declared.verdict.Verdict.{Verdict}
 use Rattle.text.proofs.Laws.Verdict as V1
 use Rattle.text.proofs.Laws.Complete.{text-complete}
 use Rattle.text.proofs.Laws.Sound.{text-sound}

@@ -11,8 +11,8 @@ use Rattle.chars.specs.Base.{pick}
 use Rattle.text.specs.Machine.{Item, Move, pass, bad, deep, go, byte, range, text, char, move, optional, owing}
 use Rattle.text.specs.Machine.{feed, ends, after, run, from, value}
 use Rattle.text.specs.Reading.{Leads, Done, Falls, Fault}
-use Rattle.text.specs.declared.scan.Verdict.{Verdict}
-use Rattle.text.specs.declared.scan.Verdict.the-variants.{Whole, Breaks, Deep}
+use Rattle.text.specs.declared.verdict.Verdict.{Verdict}
+use Rattle.text.specs.declared.verdict.Verdict.the-variants.{Whole, Breaks, Deep}
 use Rattle.text.proofs.Laws.Reading.{from-cons, takes, refuses, sinks, stops}
 use Rattle.text.proofs.Laws.Moves.Owing.{Firm, char-firm, value-firm}
 use Rattle.text.proofs.Laws.Moves.Bytes.{byte-is, range-under, range-over}

@@ -9,15 +9,12 @@ use native.Mathlib.Omega.{arith}
 use lib.Dec.{eqb, ltb}
 use lib.ListN.{length, getD}
 use borrow.Author.Tests.{ltb-true, ltb-false, eqb-true, eqb-false}
+use Rattle.chars.proofs.Laws.Tests.{neither}
 use Rattle.text.specs.Machine.{pass, go, ws, text, move}
 use Rattle.text.specs.Reading.{Leads}
 use Rattle.text.proofs.Laws.Reading.{seq, takes}
 use Rattle.text.proofs.Laws.Moves.Strings.{text-plain}
 use Rattle.text.proofs.Laws.Moves.Bytes.{ws-line, ws-key, ws-under, ws-over}
-
-pub neither : (t u : Bool) → (t || u) ≡ false → (t ≡ false) × (u ≡ false)
-neither true u h = let z : _≡_ {A = Bool} true false = h in (z, cc)
-neither false u h = (refl, h)
 
 -- a byte that is not special
 pub not-special : (b : ℕ) → (ltb b 32 || ltb 127 b || eqb b 34 || eqb b 92) ≡ false → move text b ≡ go (text ∷ [])

@@ -24,7 +24,7 @@ use Rattle.text.specs.Printing.{quoted, printed, printedElements, printe
 use Rattle.text.specs.Printing.{sound-null, sound-bool, sound-number, sound-string, sound-list, sound-object}
 use Rattle.text.specs.Printing.{SoundValues, sound-no-more, sound-also, SoundMembers, sound-no-members}
 use Rattle.text.specs.Printing.{sound-named}
-use Rattle.text.specs.declared.scan.Verdict.the-variants.{Whole}
+use Rattle.text.specs.declared.verdict.Verdict.the-variants.{Whole}
 use Rattle.text.proofs.Laws.Parts.{spelt-drop, spelt-length, spelt-first}
 use Rattle.text.proofs.Laws.Meaning.{verdict-unique}
 use Rattle.text.proofs.Laws.Contents.{contents, contents-is}

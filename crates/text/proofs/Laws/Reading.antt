@@ -10,10 +10,10 @@ use lib.Seq.{drop-cons, drop-length}
 use Rattle.chars.specs.Base.{pick, At}
 use Rattle.text.specs.Machine.{Item, pass, bad, deep, go, byte, move, optional, feed, ends, after, run, from}
 use Rattle.text.specs.Reading.{Leads, Done, Falls, Goes}
-use Rattle.text.specs.declared.scan.Verdict.{Verdict}
-use Rattle.text.specs.declared.scan.Verdict.the-variants.{Whole, Breaks, Deep}
-use Rattle.text.specs.declared.scan.Part.{Part}
-use Rattle.text.specs.declared.scan.Part.the-variants.{Past, Fails}
+use Rattle.text.specs.declared.verdict.Verdict.{Verdict}
+use Rattle.text.specs.declared.verdict.Verdict.the-variants.{Whole, Breaks, Deep}
+use Rattle.text.specs.declared.verdict.Part.{Part}
+use Rattle.text.specs.declared.verdict.Part.the-variants.{Past, Fails}
 
 -- one byte
 pub from-cons : (k : List Item) (s : List ℕ) (i : ℕ) → i < length s

@@ -11,7 +11,7 @@ use Rattle.text.specs.Json.{Values, Members, also, named, null, bool, de
 use Rattle.text.specs.Json.{rest, members, a-null, a-true, a-false, element, member}
 use Rattle.text.specs.Machine.{Item, bad, ws, byte, text, value, next, before, inner, move, optional, verdictAt}
 use Rattle.text.specs.Verdicts.{Text}
-use Rattle.text.specs.declared.scan.Verdict.the-variants.{Whole, Breaks}
+use Rattle.text.specs.declared.verdict.Verdict.the-variants.{Whole, Breaks}
 use Rattle.text.specs.declared.scan.Shape.the-variants.{List as a-list, Object as an-object}
 use Rattle.text.proofs.Laws.Places.{Alive, alive-inside, not-whole, past-end}
 use Rattle.text.proofs.Laws.Taking.Items.{from-end, alive-refuses, alive-byte}

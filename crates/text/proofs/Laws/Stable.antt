@@ -11,8 +11,8 @@ use lib.ListN.{length, take, length-append}
 use lib.Seq.{take-at}
 use Rattle.chars.specs.Base.{pick}
 use Rattle.text.specs.Machine.{Item, Move, pass, bad, deep, go, feed, ends, after, run}
-use Rattle.text.specs.declared.scan.Verdict.{Verdict}
-use Rattle.text.specs.declared.scan.Verdict.the-variants.{Whole, Breaks, Deep}
+use Rattle.text.specs.declared.verdict.Verdict.{Verdict}
+use Rattle.text.specs.declared.verdict.Verdict.the-variants.{Whole, Breaks, Deep}
 use Rattle.text.proofs.Laws.Live.{Ends, Kin, kin-ends}
 use Rattle.text.proofs.Laws.Levels.{Keeps, both-pass, both-bad, both-go, one-deep, kin-feed}
 

@@ -9,10 +9,10 @@ use Rattle.text.specs.Json.{levels}
 use Rattle.text.specs.Machine.{go, ws, byte, text, value, first, next, before, inner, close, opener, opens}
 use Rattle.text.specs.Machine.{optional, ends, verdictAt, verdict}
 use Rattle.text.specs.Reading.{Leads, Done, Falls, Goes, Opens, Enters, Begins, Followed, Follows}
-use Rattle.text.specs.declared.scan.Verdict.{Verdict}
-use Rattle.text.specs.declared.scan.Verdict.the-variants.{Whole, Breaks, Deep}
-use Rattle.text.specs.declared.scan.Part.{Part}
-use Rattle.text.specs.declared.scan.Part.the-variants.{Past, Fails}
+use Rattle.text.specs.declared.verdict.Verdict.{Verdict}
+use Rattle.text.specs.declared.verdict.Verdict.the-variants.{Whole, Breaks, Deep}
+use Rattle.text.specs.declared.verdict.Part.{Part}
+use Rattle.text.specs.declared.verdict.Part.the-variants.{Past, Fails}
 use Rattle.text.specs.declared.scan.Shape.{Shape}
 use Rattle.text.specs.declared.scan.Shape.the-variants.{List as list, Object as object}
 use Rattle.text.specs.declared.scan.Begun.{Begun}

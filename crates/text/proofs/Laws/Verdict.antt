@@ -10,8 +10,8 @@ use lib.Seq.{take-all, take-take}
 use Rattle.text.specs.Json.{levels}
 use Rattle.text.specs.Machine.{from, verdictAt, verdict}
 use Rattle.text.specs.Verdicts.{Text, Begins, BreaksAt, Sinks, Means}
-use Rattle.text.specs.declared.scan.Verdict.{Verdict}
-use Rattle.text.specs.declared.scan.Verdict.the-variants.{Whole, Breaks, Deep}
+use Rattle.text.specs.declared.verdict.Verdict.{Verdict}
+use Rattle.text.specs.declared.verdict.Verdict.the-variants.{Whole, Breaks, Deep}
 use Rattle.text.proofs.Laws.Places.{not-whole, deep-breaks}
 use Rattle.text.proofs.Laws.Live.{start, kin-start}
 use Rattle.text.proofs.Laws.Levels.{verdict-more}

@@ -11,7 +11,7 @@ use native.Mathlib.Omega.{arith}
 use Rattle.text.specs.Json.{Json, string, Members, no-members, named}
 use Rattle.chars.specs.Decoding.{readOf, sequenceOf, unitsBehind, meaning, textOf, equal, sameText}
 use Rattle.text.specs.Machine.{verdict}
-use Rattle.text.specs.declared.scan.Verdict.the-variants.{Whole}
+use Rattle.text.specs.declared.verdict.Verdict.the-variants.{Whole}
 use Rattle.text.proofs.Laws.Contents.{contents}
 use Rattle.text.proofs.Laws.Printing.{printed-whole, printed-contents}
 use Rattle.syntax.specs.Policy.{Policy}

@@ -12,7 +12,7 @@ use Rattle.chars.specs.Decoding.{textOf, sameText}
 use Rattle.text.specs.Printing.{Sound, sound-null, sound-bool, sound-number, sound-string, sound-list, sound-object}
 use Rattle.text.specs.Printing.{SoundMembers, sound-no-members, sound-named}
 use Rattle.text.specs.Machine.{verdict}
-use Rattle.text.specs.declared.scan.Verdict.the-variants.{Whole}
+use Rattle.text.specs.declared.verdict.Verdict.the-variants.{Whole}
 use Rattle.text.proofs.Laws.Contents.{contents, contents-says}
 use Rattle.text.proofs.Laws.Printing.{says-sound}
 use Rattle.syntax.specs.Policy.{Statement, Policy}

@@ -4,8 +4,19 @@ use second::fault::{self, Fault};
 use second::implementation::{Implementation, Second};
 use second::{Decision, Outcome, Refusal};
 
-#[derive(Debug, Clone, Copy, PartialEq, Eq)]
-pub enum Wrong {
+/// The ways to be wrong, and a list of all of them.
+macro_rules! wrong {
+    ($($way:ident),+ $(,)?) => {
+        #[derive(Debug, Clone, Copy, PartialEq, Eq)]
+        pub enum Wrong {
+            $($way),+
+        }
+
+        pub const ALL: &[Wrong] = &[$($way),+];
+    };
+}
+
+wrong! {
     RefusesAlways,
     AllowsAlways,
     FeedsNothing,
@@ -24,25 +35,6 @@ pub enum Wrong {
 }
 
 use Wrong::*;
-
-/// Every way to be wrong.
-pub const ALL: [Wrong; 15] = [
-    RefusesAlways,
-    AllowsAlways,
-    FeedsNothing,
-    FeedsOnce,
-    JoinsNothing,
-    JoinsOver,
-    JoinsAnything,
-    FinishesUnrefined,
-    FinishesFixed,
-    FinishesByOne,
-    WritesBehind,
-    WritesWhenRefused,
-    ChangesWhenRefused,
-    ForgetsPlaces,
-    LeavesOneNumber,
-];
 
 /// What `FinishesFixed` writes, whatever the policy.
 const FIXED: &[u8] =

@@ -85,7 +85,7 @@ fn faults_fail_trials() {
 fn imitations_and_faults_fail_logs() {
     // No room of a log is damaged.
     let in_logs = |wrong: &Wrong| *wrong != Wrong::JoinsAnything;
-    for wrong in ALL.into_iter().filter(in_logs) {
+    for wrong in ALL.iter().copied().filter(in_logs) {
         assert!(fails_logs(&Imitation(wrong)), "{wrong:?}");
     }
     for fault in [
@@ -112,7 +112,7 @@ fn taking_anything_fails_damage() {
 /// The second implementation's own properties notice all of them too.
 #[test]
 fn imitations_fail_properties() {
-    for wrong in ALL {
+    for &wrong in ALL {
         let noticed = (0..60).any(|seed| check_seed(&Imitation(wrong), seed).is_err());
         assert!(noticed, "{wrong:?}");
     }

@@ -1,15 +1,18 @@
 -- The line that the code finds ends at the first LF or with the text: counting byte by byte.
 use mathlib.Core.Path.{_≡_, refl, sym, ap, _∙_}
+use mathlib.Core.Bool.{Bool, false, _||_}
 use mathlib.Core.List.{List, [], _∷_, _++_}
 use Prim.Native.Nat.{ℕ, suc, _+_, _≤_, _<_}
 use native.Mathlib.Omega.{arith}
 use native.Mathlib.Numerals.{add-one}
 use native.Mathlib.Decide.{ℕ-discrete}
+use lib.Dec.{eqb}
 use lib.ListN.{length, getD, drop, length-append, drop-of-length-le}
 use lib.Seq.{drop-cons}
-use borrow.Author.Tests.{eq-eqb, ne-eqb, lt-ltb, le-ltb}
+use borrow.Author.Tests.{eq-eqb, ne-eqb, eqb-false, lt-ltb, le-ltb}
 use Rattle.chars.specs.Lines.{Unbroken, none, more, unbroken, lineTo, lineAt}
 use Rattle.chars.specs.declared.lines.Line.the-variants.{Here, None}
+use Rattle.chars.proofs.Laws.Tests.{neither}
 
 pub unbroken-lf : (s : List ℕ) (i : ℕ) → i < length s → getD s i 0 ≡ 10 → unbroken (drop i s) ≡ 0
 unfolding unbroken
@@ -24,6 +27,17 @@ unbroken-more s i h n =
     let same : unbroken (drop (suc i) s) ≡ unbroken (drop (i + 1) s) =
     ap (λ (k : ℕ). unbroken (drop k s)) (sym (add-one i)) in
     omega (arith, one, same)
+
+-- one more of eight
+pub eight-next :
+    (s : List ℕ) (at j : ℕ) (t : Bool) → (t ≡ false → at + j + unbroken (drop (at + j) s) ≡ at + unbroken (drop at s))
+    → at + j < length s → (t || eqb (getD s (at + j) 0) 10) ≡ false
+    → at + (j + 1) + unbroken (drop (at + (j + 1)) s) ≡ at + unbroken (drop at s)
+eight-next s at j t w h e =
+    let n = neither t (eqb (getD s (at + j) 0) 10) e in
+    let k : at + (j + 1) ≡ at + j + 1 = omega arith in
+    ap (λ (m : ℕ). m + unbroken (drop m s)) k
+    ∙ sym (unbroken-more s (at + j) h (eqb-false (getD s (at + j) 0) 10 (n .1))) ∙ w (n .0)
 
 pub unbroken-end : (s : List ℕ) (i : ℕ) → length s ≤ i → unbroken (drop i s) ≡ 0
 unfolding unbroken

@@ -1,5 +1,5 @@
 -- What the loops of `decode` and `same` keep: the text of all bytes is what was read, and the text from the place on.
-use mathlib.Core.Path.{_≡_, refl, sym, ap, _∙_}
+use mathlib.Core.Path.{_≡_, refl, sym, ap, _∙_, subst}
 use mathlib.Core.Bool.{Bool, true, false}
 use mathlib.Core.List.{List, [], _∷_, _++_, append-assoc, append-nil}
 use Prim.Native.Nat.{ℕ, suc, _+_, _-_, _≤_, _<_}
@@ -8,7 +8,7 @@ use native.Mathlib.Omega.{arith}
 use native.Mathlib.Decide.{decLt}
 use lib.Dec.{eqb}
 use lib.ListN.{length, getD, take, drop, set, length-append, length-drop, drop-of-length-le}
-use lib.Seq.{take-all, drop-cons}
+use lib.Seq.{take-all, drop-cons, drop-drop}
 use borrow.Author.Tests.{le-leb, lt-leb, eq-eqb, ne-eqb}
 use Rattle.chars.specs.Base.{pick}
 use Rattle.chars.specs.Putting.{lay}
@@ -46,6 +46,18 @@ module _ (w : List ℕ) (i : ℕ) (r : Step) (step : textOf (rest w i) ≡ stepp
 
   step-lone : r ≡ S.Lone → textOf (drop i w) ≡ lone
   step-lone e = here ∙ ap (λ (s : Step). stepped s (drop i w)) e
+
+-- a byte of ASCII that begins no escape is its own character
+pub ascii-step : (w : List ℕ) (i : ℕ) → i < length w → getD w i 0 < 128 → (getD w i 0 ≡ 92 → ⊥)
+    → textOf (rest w i) ≡ stepped (S.Char (getD w i 0) 0) (rest w i)
+ascii-step w i h k d =
+    let b = getD w i 0 in
+    let v = drop (suc i) w in
+    subst (λ (l : List ℕ). textOf l ≡ stepped (S.Char b 0) l) (sym (rest-drop w i ∙ drop-cons w i 0 h))
+    (text-plain (b ∷ v) (omega arith) (read-sequence (b ∷ v) d ∙ sequence-one (b ∷ v) b k))
+
+pub ascii-past : (w : List ℕ) (i : ℕ) → Past w i 0 (i + 1)
+ascii-past w i = record { on = omega arith; rest = sym (drop-drop 1 i w) }
 
 -- ---- decode
 
@@ -86,13 +98,7 @@ module _ {w before after : List ℕ} {i n : ℕ} (p : Sofar w before after i n) 
 
   pub sofar-ascii : {c : ℕ} {next : List ℕ} → i < length w → getD w i 0 < 128 → (getD w i 0 ≡ 92 → ⊥) → c ≡ getD w i 0
       → next ≡ set after n c → Sofar w before next (i + 1) (n + 1)
-  sofar-ascii {c} h k d e s =
-      let b = getD w i 0 in
-      let v = drop (suc i) w in
-      sofar-ahead
-      (ap textOf (drop-cons w i 0 h)
-      ∙ text-plain (b ∷ v) (omega arith) (read-sequence (b ∷ v) d ∙ sequence-one (b ∷ v) b k)
-      ∙ rw (← e, add-one i)) (omega arith) s
+  sofar-ascii {c} h k d e s = sofar-char (ascii-step w i h k d) (ap (λ (x : ℕ). S.Char x 0) (sym e)) (ascii-past w i) s
 
   -- nothing but the end is left
   ended : (t : Text) → textOf (drop i w) ≡ t → t .chars ≡ [] → textOf w ≡ record { chars = p .chars; sound = t .sound }

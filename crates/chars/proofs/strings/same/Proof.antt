@@ -1,22 +1,79 @@
 -- Each turn strikes one character off the text and one byte off w.
-use mathlib.Core.Path.{sym, _∙_}
+use mathlib.Core.Path.{refl, sym, _∙_}
 use Prim.Native.Nat.{_-_}
 use native.Mathlib.Omega.{arith}
 use lib.ListN.{length}
-use Rattle.chars.proofs.Laws.Strings.Runs.{rest-some, Match, match-start, match-lone, match-short, match-other}
-use Rattle.chars.proofs.Laws.Strings.Runs.{match-next, match-end}
+use Rattle.chars.proofs.Laws.Strings.Runs.{rest-some, ascii-step, ascii-past, Match, match-start, match-lone}
+use Rattle.chars.proofs.Laws.Strings.Runs.{match-short, match-other, match-next, match-end}
 use borrow.Author.Needs.{needs}
 use Rattle.chars.proofs.strings.same.Statement.{statement}
 use Rattle.chars.proofs.strings.same.Tie as tie
+use Rattle.chars.proofs.strings.same.Reads as reads
+use Rattle.chars.proofs.strings.same.Lts as lts
+use Rattle.chars.proofs.strings.first.Reads as first-reads
+use Rattle.chars.proofs.strings.past.Reads as past-reads
+use Rattle.chars.proofs.strings.wide.Reads as wide-reads
 
 abbrev Inv-loop : tie.InvT-loop
-Inv-loop s w i₀ j₀ i j = Match s w i j
+Inv-loop s w i₀ j₀ i j =
+    Match s w i j
 
 abbrev μ-loop : tie.MeasureT-loop
-μ-loop s w i₀ j₀ i j = length s - i
+μ-loop s w i₀ j₀ i j =
+    length s - i
 
 loop-holds : tie.Need-loop-holds Inv-loop μ-loop
-loop-holds c = match-start _ _
+loop-holds c =
+    match-start _ _
+
+shared-slice-read-b : tie.Need-shared-slice-read-b Inv-loop μ-loop
+shared-slice-read-b c = search needs
+
+returns : tie.Need-returns Inv-loop μ-loop
+returns c =
+    let at-if2 = c .before in
+    let at-if1 = at-if2 .before in
+    let at-loop-test = at-if1 .before .before in
+    let at-loop = at-loop-test .before in
+    let start = at-loop .before .before .before in
+    let step = ascii-step (start .args .s .now) (at-loop .loop .i) (at-loop-test .loop-test .taken) (at-if1 .if1 .taken) (at-if2 .if2 .taken) in
+    match-short (at-loop .loop .inv) {m = 0} step refl (c .if3 .taken)
+
+shared-slice-read-if4 : tie.Need-shared-slice-read-if4 Inv-loop μ-loop
+shared-slice-read-if4 c = search needs
+
+returns-2 : tie.Need-returns-2 Inv-loop μ-loop
+returns-2 c =
+    let at-if3 = c .before .before in
+    let at-if2 = at-if3 .before in
+    let at-if1 = at-if2 .before in
+    let at-loop-test = at-if1 .before .before in
+    let at-loop = at-loop-test .before in
+    let start = at-loop .before .before .before in
+    let step = ascii-step (start .args .s .now) (at-loop .loop .i) (at-loop-test .loop-test .taken) (at-if1 .if1 .taken) (at-if2 .if2 .taken) in
+    match-other (at-loop .loop .inv) {m = 0} step refl (at-if3 .if3 .left) (c .if4 .taken)
+
+add-j : tie.Need-add-j Inv-loop μ-loop
+add-j c = search needs
+
+add-i : tie.Need-add-i Inv-loop μ-loop
+add-i c = search needs
+
+loop-less : tie.Need-loop-less Inv-loop μ-loop
+loop-less c =
+    let at-loop-test = c .before .before .before .before .before .before in
+    omega (arith, at-loop-test .loop-test .taken)
+
+loop-again : tie.Need-loop-again Inv-loop μ-loop
+loop-again c =
+    let at-if3 = c .before .before in
+    let at-if2 = at-if3 .before in
+    let at-if1 = at-if2 .before in
+    let at-loop-test = at-if1 .before .before in
+    let at-loop = at-loop-test .before in
+    let start = at-loop .before .before .before in
+    let step = ascii-step (start .args .s .now) (at-loop .loop .i) (at-loop-test .loop-test .taken) (at-if1 .if1 .taken) (at-if2 .if2 .taken) in
+    match-next (at-loop .loop .inv) {m = 0} step refl (at-if3 .if3 .left) (c .if4 .left) (ascii-past _ _)
 
 sub-first : tie.Need-sub-first Inv-loop μ-loop
 sub-first c = search needs
@@ -29,16 +86,19 @@ part-first-end c = search needs
 
 first-requires : tie.Need-first-requires Inv-loop μ-loop
 first-requires c κs =
-    rest-some (c .before .before .before .before .before .args .s .now) _ (c .before .loop-test .taken)
+    let at-loop-test = c .before .before .before in
+    let start = at-loop-test .before .before .before .before in
+    rest-some (start .args .s .now) _ (at-loop-test .loop-test .taken)
 
 enum-known-x : tie.Need-enum-known-x Inv-loop μ-loop
 enum-known-x c = search needs
 
-returns : tie.Need-returns Inv-loop μ-loop
-returns c =
-    let told = c .before .before in
-    match-short (told .before .before .before .before .before .loop .inv) (told .before .before .first .ensures)
-    (told .x .given .1) (c .if1 .taken)
+returns-3 : tie.Need-returns-3 Inv-loop μ-loop
+returns-3 c =
+    let at-x = c .before .before in
+    let at-first = at-x .before .before in
+    let at-loop = at-first .before .before .before .before .before in
+    match-short (at-loop .loop .inv) (at-first .first .ensures) (at-x .x .given .1) (c .if5 .taken)
 
 shared-slice-read-wide : tie.Need-shared-slice-read-wide Inv-loop μ-loop
 shared-slice-read-wide c = search needs
@@ -46,40 +106,51 @@ shared-slice-read-wide c = search needs
 wide-requires : tie.Need-wide-requires Inv-loop μ-loop
 wide-requires c κs = search needs
 
-returns-2 : tie.Need-returns-2 Inv-loop μ-loop
-returns-2 c =
-    let told = c .before .before .before .before .before in
-    match-other (told .before .before .before .before .before .loop .inv) (told .before .before .first .ensures)
-    (told .x .given .1) (c .before .before .before .if1 .left) (λ e. c .if2 .taken (e ∙ sym (c .before .wide .ensures)))
+returns-4 : tie.Need-returns-4 Inv-loop μ-loop
+returns-4 c =
+    let at-wide = c .before in
+    let at-if5 = at-wide .before .before in
+    let at-x = at-if5 .before .before in
+    let at-first = at-x .before .before in
+    let at-loop = at-first .before .before .before .before .before in
+    match-other (at-loop .loop .inv) (at-first .first .ensures) (at-x .x .given .1) (at-if5 .if5 .left) (λ e. c .if6 .taken (e ∙ sym (at-wide .wide .ensures)))
 
-add-j : tie.Need-add-j Inv-loop μ-loop
-add-j c = search needs
+add-j-2 : tie.Need-add-j-2 Inv-loop μ-loop
+add-j-2 c = search needs
 
 past-requires : tie.Need-past-requires Inv-loop μ-loop
-past-requires c κs = search needs
+past-requires c κs =
+    let at-loop-test = c .before .before .before .before .before .before .before .before .before .before .before in
+    at-loop-test .loop-test .taken
 
-loop-less : tie.Need-loop-less Inv-loop μ-loop
-loop-less c =
-    let turn = c .before .before .before .before .before .before .before .before .before .before in
-    omega (arith, c .past .ensures .on, turn .loop-test .taken)
+loop-less-2 : tie.Need-loop-less-2 Inv-loop μ-loop
+loop-less-2 c =
+    let at-loop-test = c .before .before .before .before .before .before .before .before .before .before .before .before in
+    omega (arith, c .past .ensures .on, at-loop-test .loop-test .taken)
 
-loop-again : tie.Need-loop-again Inv-loop μ-loop
-loop-again c =
-    let told = c .before .before .before .before .before .before in
-    match-next (told .before .before .before .before .before .loop .inv) (told .before .before .first .ensures)
-    (told .x .given .1) (c .before .before .before .before .if1 .left)
-    (c .before .if2 .left ∙ c .before .before .wide .ensures) (c .past .ensures)
+loop-again-2 : tie.Need-loop-again-2 Inv-loop μ-loop
+loop-again-2 c =
+    let at-if6 = c .before in
+    let at-wide = at-if6 .before in
+    let at-if5 = at-wide .before .before in
+    let at-x = at-if5 .before .before in
+    let at-first = at-x .before .before in
+    let at-loop = at-first .before .before .before .before .before in
+    match-next (at-loop .loop .inv) (at-first .first .ensures) (at-x .x .given .1) (at-if5 .if5 .left) (at-if6 .if6 .left ∙ at-wide .wide .ensures) (c .past .ensures)
 
 enum-told : tie.Need-enum-told Inv-loop μ-loop
 enum-told c = search needs
 
-returns-3 : tie.Need-returns-3 Inv-loop μ-loop
-returns-3 c =
-    match-lone (c .before .before .before .before .before .loop .inv) (c .before .before .first .ensures)
-    (c .enum-told .given .1)
+returns-5 : tie.Need-returns-5 Inv-loop μ-loop
+returns-5 c =
+    let at-first = c .before .before in
+    let at-loop = at-first .before .before .before .before .before in
+    match-lone (at-loop .loop .inv) (at-first .first .ensures) (c .enum-told .given .1)
 
-returns-4 : tie.Need-returns-4 Inv-loop μ-loop
-returns-4 c = match-end (c .before .loop .inv) (c .loop-test .left)
+returns-6 : tie.Need-returns-6 Inv-loop μ-loop
+returns-6 c =
+    let at-loop = c .before in
+    match-end (at-loop .loop .inv) (c .loop-test .left)
 
 pub same-spec : {M : Type 1} → statement M
 same-spec =
@@ -88,19 +159,27 @@ same-spec =
     Inv-loop
     μ-loop
     loop-holds
+    shared-slice-read-b
+    returns
+    shared-slice-read-if4
+    returns-2
+    add-j
+    add-i
+    loop-less
+    loop-again
     sub-first
     part-first-start
     part-first-end
     first-requires
     enum-known-x
-    returns
+    returns-3
     shared-slice-read-wide
     wide-requires
-    returns-2
-    add-j
+    returns-4
+    add-j-2
     past-requires
-    loop-less
-    loop-again
+    loop-less-2
+    loop-again-2
     enum-told
-    returns-3
-    returns-4)
+    returns-5
+    returns-6)
