@@ -20,5 +20,6 @@ pub mod Levels
 pub mod Stable
 pub mod Verdict
 pub mod Contents
+pub mod Skipping
 pub mod Meaning
 pub mod Printing

@@ -1,12 +1,14 @@
 // A walk over a text known to be whole, in place: each function promises which piece of the tree stands where.
 ghost use mathlib.Core.Path.{_≡_};
-ghost use Prim.Native.Nat.{ℕ};
+ghost use Prim.Native.Nat.{ℕ, _+_};
+ghost use lib.ListN.{getD};
 ghost use mathlib.Core.List.{List};
 ghost use Rattle.text.specs.Json.{Json, Values, Members, list, object, string};
 ghost use Rattle.text.specs.Machine.{verdict};
 ghost use Rattle.text.specs.Contents.{Stands, Rest, Others, Standing, StandingText, StandingList};
 ghost use Rattle.text.specs.Contents.{StandingObject, Resting, Continuing, kindOf, Raw, Comes, Leads, Rooted};
 ghost use Rattle.text.specs.Contents.{Entry, Entering};
+ghost use Rattle.text.specs.Skipping.{level, Steps, Closes, Stepping, Counting, Closing};
 ghost use Rattle.text.specs.declared.verdict.Verdict.the-variants.{Whole};
 use crate::quoted;
 use crate::scan;
@@ -53,8 +55,52 @@ pub fn root(s: &[u8]) -> usize
     scan::space(s, 0)
 }
 
-// The place past the value that stands at a place.
-pub fn past_value(s: &[u8], v: usize) -> usize
+// The place behind a byte, and behind a whole string where a quote opens one.
+fn past_one(s: &[u8], i: usize) -> usize
+    requires { ⌜ Stepping (now s) i ⌝ }
+    ensures { λ r. ⌜ ((j : ℕ) → Steps (now (s .entry)) i j → r ≡ j) ⌝ }
+{
+    if s[i] != 34 {
+        return i + 1;
+    }
+    let r = quoted::string(s, i + 1);
+    match r {
+        Part::Past(q) => q,
+        Part::Fails(_) => i,
+    }
+}
+
+// How many brackets are open behind the byte at a place.
+fn open_past(s: &[u8], i: usize, deep: usize) -> usize
+    requires { ⌜ Counting (now s) i deep ⌝ }
+    ensures { λ r. ⌜ r ≡ level (getD (now (s .entry)) i 0) deep ⌝ }
+{
+    let b = s[i];
+    match b {
+        91 => deep + 1,
+        93 => deep - 1,
+        123 => deep + 1,
+        125 => deep - 1,
+        _ => deep,
+    }
+}
+
+// The place past the list or object that opens at a place: brackets are counted, strings passed whole.
+fn past_closed(s: &[u8], v: usize) -> usize
+    requires { ⌜ Closing (now s) v ⌝ }
+    ensures { λ r. ⌜ ((e : ℕ) → Closes (now (s .entry)) 1 (v + 1) e → r ≡ e) ⌝ }
+{
+    let mut i = v + 1;
+    let mut deep: usize = 1;
+    while 0 < deep {
+        deep = open_past(s, i, deep);
+        i = past_one(s, i);
+    }
+    i
+}
+
+// The place past a value that is no list and no object.
+fn past_leaf(s: &[u8], v: usize) -> usize
     requires { ⌜ Standing (now s) v ⌝ }
     ensures { λ r. ⌜ ((t : Json) (e : ℕ) → Stands (now (s .entry)) t v e → r ≡ e) ⌝ }
 {
@@ -62,6 +108,19 @@ pub fn past_value(s: &[u8], v: usize) -> usize
     match r {
         Part::Past(e) => e,
         Part::Fails(_) => v,
+    }
+}
+
+// The place past the value that stands at a place.
+pub fn past_value(s: &[u8], v: usize) -> usize
+    requires { ⌜ Standing (now s) v ⌝ }
+    ensures { λ r. ⌜ ((t : Json) (e : ℕ) → Stands (now (s .entry)) t v e → r ≡ e) ⌝ }
+{
+    let b = s[v];
+    match b {
+        91 => past_closed(s, v),
+        123 => past_closed(s, v),
+        _ => past_leaf(s, v),
     }
 }
 

@@ -1,37 +1,42 @@
--- The twin reads the value that stands there to its end, and cannot fail.
-use mathlib.Core.List.{[], _∷_}
-use native.Mathlib.Omega.{arith}
-use Rattle.text.specs.Json.{levels}
-use Rattle.text.specs.Machine.{value}
-use Rattle.text.proofs.Laws.Reading.{past, fell}
-use Rattle.text.proofs.Laws.Places.{done-unique}
-use Rattle.text.proofs.Laws.Contents.{stands-done, stands-inside, done-fall}
-use borrow.Author.Needs.{needs}
+-- A list or an object is closed where it ends.
+use Rattle.text.proofs.Laws.Contents.{stands-inside}
+use Rattle.text.proofs.Laws.Skipping.{list-closes, object-closes}
 use Rattle.text.proofs.walk.past_value.Statement.{statement}
 use Rattle.text.proofs.walk.past_value.Tie as tie
 
-value-requires : tie.Need-value-requires
-value-requires c κs = let h = stands-inside (c .before .pre .is) in omega arith
+shared-slice-read-b : tie.Need-shared-slice-read-b
+shared-slice-read-b c = stands-inside (c .before .before .pre .is)
 
-enum-known-r : tie.Need-enum-known-r
-enum-known-r c = search needs
+past-closed-requires : tie.Need-past-closed-requires
+past-closed-requires c κs =
+    let pre = c .before .before .before .pre in
+    record { stop = pre .stop; closes = list-closes (c .match .keys1) (pre .is) }
 
-enum-told : tie.Need-enum-told
-enum-told c = search needs
+past-closed-requires-2 : tie.Need-past-closed-requires-2
+past-closed-requires-2 c κs =
+    let pre = c .before .before .before .pre in
+    record { stop = pre .stop; closes = object-closes (c .match .keys2) (pre .is) }
+
+past-leaf-requires : tie.Need-past-leaf-requires
+past-leaf-requires c κs = c .before .before .before .pre
 
 returns : tie.Need-returns
-returns c =
-    let after-value = c .before .before .before .value .ensures in
-    λ t e p.
-    done-unique (value levels ∷ []) (past (value levels ∷ []) _ _ (c .before .r .given .1) after-value)
-    (stands-done p)
+returns c = λ t e p. c .past-closed .ensures e (list-closes (c .before .match .keys1) p)
 
 returns-2 : tie.Need-returns-2
-returns-2 c =
-    λ t e p.
-    absurd
-    (done-fall (value levels ∷ []) (stands-done p)
-    (fell (value levels ∷ []) _ _ (c .enum-told .given .1) (c .before .before .value .ensures)))
+returns-2 c = λ t e p. c .past-closed2 .ensures e (object-closes (c .before .match .keys2) p)
+
+returns-3 : tie.Need-returns-3
+returns-3 c = c .past-leaf .ensures
 
 pub past-value-spec : {M : Type 1} → statement M
-past-value-spec = tie.close (tie.spec value-requires enum-known-r enum-told returns returns-2)
+past-value-spec =
+    tie.close
+    (tie.spec
+    shared-slice-read-b
+    past-closed-requires
+    past-closed-requires-2
+    past-leaf-requires
+    returns
+    returns-2
+    returns-3)
