@@ -12,6 +12,7 @@ pub mod ValidLists
 pub mod ValidPolicy
 pub mod Again
 pub mod Trials
+pub mod Written
 pub mod ImitationTexts
 pub mod ImitationRooms
 pub mod ImitationInputs
