@@ -32,30 +32,30 @@ pub fn clear(row: &mut [u32])
     }
 }
 
-// Are the eight numbers from a place on zero? Without branches, so that they are tested as one.
-fn eight_zeros(row: &[u32], at: usize) -> bool
-    requires { ⌜ at + 8 ≤ length (now row) ⌝ }
-    ensures { λ r. ⌜ (r ≡ true → isZero (drop (at + 8) (now (row .entry))) ≡ isZero (drop at (now (row .entry)))) ⌝ }
+// Are the 32 numbers from a place on zero? Without branches, so that they are tested as a few.
+fn block_zeros(row: &[u32], at: usize) -> bool
+    requires { ⌜ at + 32 ≤ length (now row) ⌝ }
+    ensures { λ r. ⌜ (r ≡ true → isZero (drop (at + 32) (now (row .entry))) ≡ isZero (drop at (now (row .entry)))) ⌝ }
 {
     let mut zero = true;
     let mut j = 0;
-    while j < 8 {
+    while j < 32 {
         zero = zero & (row[at + j] == 0);
         j += 1;
     }
     zero
 }
 
-// Past some of the zeros, eight by eight.
+// Past some of the zeros, block by block.
 fn past_zeros(row: &[u32]) -> usize
     ensures { λ r. ⌜ isZero (drop r (now (row .entry))) ≡ isZero (now (row .entry)) ⌝ }
 {
     let mut i = 0usize;
-    while 8 <= row.len() - i {
-        if !eight_zeros(row, i) {
+    while 32 <= row.len() - i {
+        if !block_zeros(row, i) {
             return i;
         }
-        i += 8;
+        i += 32;
     }
     i
 }

@@ -1,10 +1,12 @@
 // Strings: the bytes between two quotes, as characters.
 ghost use mathlib.Core.Path.{_≡_};
-ghost use Prim.Native.Nat.{_<_, _≤_, _%_};
+ghost use mathlib.Core.Bool.{true};
+ghost use Prim.Native.Nat.{_+_, _<_, _≤_, _%_};
 ghost use lib.ListN.{length, getD, set, drop};
 ghost use Rattle.chars.specs.Base.{In};
 ghost use Rattle.chars.specs.Decoding.{hexOf, codeAt, letterOf, unitsOf, pairedWith, textOf, sameText, Decodes};
-ghost use Rattle.chars.specs.Steps.{stepped, DigitAt, Escaped, Leading, Past};
+ghost use Rattle.chars.specs.Steps.{stepped, DigitAt, Escaped, Leading, Past, PlainEight, Plain};
+ghost use Rattle.chars.specs.Steps.{SameEight, Moves, Match};
 
 // So many characters; or a surrogate escape is no half of a pair; or the room is too short for the characters.
 pub enum Decoded {
@@ -190,13 +192,70 @@ fn put(out: &mut [u32], n: usize, c: u32)
     }
 }
 
+// Is it a character by itself? Without branches, so that eight at once are tested as one.
+fn plain(b: u8) -> bool
+    ensures { λ r. ⌜ (r ≡ true → Plain b) ⌝ }
+{
+    (b < 128) & (b != 92)
+}
+
+// Are the eight bytes from a place on plain?
+fn plain_eight(s: &[u8], at: usize) -> bool
+    requires { ⌜ at + 8 ≤ length (now s) ⌝ }
+    ensures { λ r. ⌜ (r ≡ true → PlainEight (now (s .entry)) at) ⌝ }
+{
+    let mut all = true;
+    let mut j = 0;
+    while j < 8 {
+        all = all & plain(s[at + j]);
+        j += 1;
+    }
+    all
+}
+
+// Eight plain bytes are put, from a place of the run on.
+fn put_eight(s: &[u8], at: usize, out: &mut [u32], n: usize)
+    requires { ⌜ (at + 8 ≤ length (now s)) × (n + 8 ≤ length (now out)) × (PlainEight (now s) at) ⌝ }
+    ensures { λ r. ⌜ Moves (now (s .entry)) (now (out .entry)) (now (out .exit)) at n (at + 8) ⌝ }
+{
+    let mut j = 0;
+    while j < 8 {
+        out[n + j] = wide(s[at + j]);
+        j += 1;
+    }
+}
+
+// Plain bytes are put eight by eight, as many as come and have room; answers the place behind them.
+fn put_eights(s: &[u8], at: usize, out: &mut [u32], from: usize) -> usize
+    requires { ⌜ at ≤ length (now s) ⌝ }
+    ensures { λ r. ⌜ Moves (now (s .entry)) (now (out .entry)) (now (out .exit)) at from r ⌝ }
+{
+    let mut i = at;
+    let mut n = from;
+    while 8 <= s.len() - i {
+        if out.len() < n {
+            return i;
+        }
+        if out.len() - n < 8 {
+            return i;
+        }
+        if !plain_eight(s, i) {
+            return i;
+        }
+        put_eight(s, i, out, n);
+        i += 8;
+        n += 8;
+    }
+    i
+}
+
 // The characters of the bytes between two quotes, written to the beginning of the lent run as far as it goes.
 // ASCII that is no escape takes the short way: most strings are of nothing else.
 pub fn decode(s: &[u8], out: &mut [u32]) -> Decoded
     ensures { λ r. ⌜ Decodes (now (s .entry)) (now (out .entry)) r (now (out .exit)) ⌝ }
 {
-    let mut i = 0;
-    let mut n = 0;
+    let mut i = put_eights(s, 0, out, 0);
+    let mut n = i;
     while i < s.len() {
         let b = s[i];
         if b < 128 {
@@ -211,8 +270,9 @@ pub fn decode(s: &[u8], out: &mut [u32]) -> Decoded
         match x {
             Step::Char { c, more } => {
                 put(out, n, c);
-                n += 1;
-                i = past(s, i, more);
+                let p = past(s, i, more);
+                i = put_eights(s, p, out, n + 1);
+                n = n + 1 + (i - p);
             }
             Step::Lone => {
                 return Decoded::Lone;
@@ -226,12 +286,44 @@ pub fn decode(s: &[u8], out: &mut [u32]) -> Decoded
     }
 }
 
+// Are the eight bytes from a place on plain, and the same in both?
+fn same_eight(s: &[u8], w: &[u8], at: usize) -> bool
+    requires { ⌜ (at + 8 ≤ length (now s)) × (at + 8 ≤ length (now w)) ⌝ }
+    ensures { λ r. ⌜ (r ≡ true → SameEight (now (s .entry)) (now (w .entry)) at) ⌝ }
+{
+    let mut all = true;
+    let mut j = 0;
+    while j < 8 {
+        let b = s[at + j];
+        all = all & plain(b) & (b == w[at + j]);
+        j += 1;
+    }
+    all
+}
+
+// Past some of the plain bytes in which the two agree, eight by eight.
+fn same_eights(s: &[u8], w: &[u8]) -> usize
+    ensures { λ r. ⌜ (r ≤ length (now (s .entry))) × (Match (now (s .entry)) (now (w .entry)) r r) ⌝ }
+{
+    let mut i = 0;
+    while 8 <= s.len() - i {
+        if w.len() - i < 8 {
+            return i;
+        }
+        if !same_eight(s, w, i) {
+            return i;
+        }
+        i += 8;
+    }
+    i
+}
+
 // Are the characters of the bytes between two quotes these ASCII bytes? ASCII that is no escape takes the short way.
 pub fn same(s: &[u8], w: &[u8]) -> bool
     ensures { λ r. ⌜ r ≡ sameText (textOf (now (s .entry))) (now (w .entry)) ⌝ }
 {
-    let mut i = 0;
-    let mut j = 0;
+    let mut i = same_eights(s, w);
+    let mut j = i;
     while i < s.len() {
         let b = s[i];
         if b < 128 {

@@ -1,5 +1,6 @@
 pub mod Slots
 pub mod Walking
+pub mod WalkingOn
 pub mod Extends
 pub mod Holding
 pub mod Spoken

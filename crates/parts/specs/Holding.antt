@@ -2,6 +2,7 @@
 --   Extends run run′ at xs p   run′ is run up to place at, then xs, up to place p; what lies behind p is not said
 --   Holds h run run′ at x r    what x reads lies in the run as h holds it; or x is wrong
 --   Gathers h run run′ at x r  likewise for several things, with their count
+--   HoldsTo .. e r, GathersTo .. e r   likewise, and what says x ends at e
 --   entryOf k t                the entry of a list of kind k that t is
 use mathlib.Core.Path.{_≡_}
 use mathlib.Core.Bool.{Bool, true, false}
@@ -20,8 +21,12 @@ use Rattle.syntax.specs.Told.{toldNumber}
 use Rattle.syntax.specs.declared.numbers.Number.{Number}
 use Rattle.parts.specs.declared.holding.Held.{Held}
 use Rattle.parts.specs.declared.holding.Held.the-variants as H
+use Rattle.parts.specs.declared.holding.Ended.{Ended}
+use Rattle.parts.specs.declared.holding.Ended.the-variants as N
 use Rattle.parts.specs.declared.holding.Counted.{Counted}
 use Rattle.parts.specs.declared.holding.Counted.the-variants as C
+use Rattle.parts.specs.declared.holding.Listed.{Listed}
+use Rattle.parts.specs.declared.holding.Listed.the-variants as L
 use Rattle.parts.specs.declared.entries.Entry.{Entry}
 use Rattle.parts.specs.declared.entries.Entry.the-variants as E
 
@@ -91,9 +96,17 @@ abbrev pub Holds : {A : Type 0} → (A → List ℕ) → List ℕ → List ℕ �
 Holds h run run′ at x (H.Past p) = Laid h run run′ at x p
 Holds h run run′ at x H.Wrong = Left run run′ x
 
+abbrev pub HoldsTo : {A : Type 0} → (A → List ℕ) → List ℕ → List ℕ → ℕ → Reading A → ℕ → Ended → Type 0
+HoldsTo h run run′ at x e (N.Past p q) = (Laid h run run′ at x p) × (q ≡ e)
+HoldsTo h run run′ at x e N.Wrong = Left run run′ x
+
 abbrev pub Gathers : {A : Type 0} → (A → List ℕ) → List ℕ → List ℕ → ℕ → Reading (List A) → Counted → Type 0
 Gathers h run run′ at x (C.Several p n) = Gathered h run run′ at x p n
 Gathers h run run′ at x C.Wrong = Left run run′ x
+
+abbrev pub GathersTo : {A : Type 0} → (A → List ℕ) → List ℕ → List ℕ → ℕ → Reading (List A) → ℕ → Listed → Type 0
+GathersTo h run run′ at x e (L.Several p q n) = (Gathered h run run′ at x p n) × (q ≡ e)
+GathersTo h run run′ at x e L.Wrong = Left run run′ x
 
 -- nothing before place at was changed
 pub record Kept (run run′ : List ℕ) (at : ℕ) : Type 0 where

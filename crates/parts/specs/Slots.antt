@@ -1,7 +1,8 @@
 -- Slots: what one walk over an object's members tells a layout.
---   wordsOf l           the names that a layout knows, in their turn
---   whichOf ns w        the turn of a raw name among words, from 1; 0 for none
---   Slotted s ns ms r   places by turn: at 0 whether a name is unknown or repeated, at k where word k's value stands
+--   wordsOf l             the names that a layout knows, in their turn
+--   whichOf ns w          the turn of a raw name among words, from 1; 0 for none
+--   Slotted s ns ms e r   places by turn: at 0 the object's end e, or 0 where a name is unknown or repeated; at k where
+--                         word k's value stands
 use mathlib.Core.Path.{_≡_}
 use mathlib.Core.Bool.{Bool, true, false}
 use mathlib.Core.Logic.{_⊎_}
@@ -55,7 +56,7 @@ pub record Repeated (ns : List (List ℕ)) (ms : Members) : Type 0 where
   pub among : Turn ns turn
   pub many-times : slot (wordAt ns turn) ms ≡ many
 
-pub record Slotted (s : List ℕ) (ns : List (List ℕ)) (ms : Members) (r : List ℕ) : Type 0 where
-  pub right : getD r 0 0 ≡ 0 → (known ns ms ≡ true) × ((k : ℕ) → Turn ns k
-      → Placed s (getD r k 0) (slot (wordAt ns k) ms))
-  pub not-right : (getD r 0 0 ≡ 0 → ⊥) → (known ns ms ≡ false) ⊎ Repeated ns ms
+pub record Slotted (s : List ℕ) (ns : List (List ℕ)) (ms : Members) (e : ℕ) (r : List ℕ) : Type 0 where
+  pub right : (getD r 0 0 ≡ 0 → ⊥) → (getD r 0 0 ≡ e) × ((known ns ms ≡ true) × ((k : ℕ) → Turn ns k
+      → Placed s (getD r k 0) (slot (wordAt ns k) ms)))
+  pub not-right : getD r 0 0 ≡ 0 → (known ns ms ≡ false) ⊎ Repeated ns ms

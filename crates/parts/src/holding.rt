@@ -8,7 +8,7 @@ ghost use Rattle.syntax.specs.Members.{characters, charactersOf};
 ghost use Rattle.syntax.specs.Limits.{greatest};
 ghost use Rattle.held.specs.Held.{heldText, heldNumber};
 ghost use Rattle.parts.specs.Room.{Roomy, Holdable};
-ghost use Rattle.parts.specs.Holding.{isText, isNumber, isList, isObject, Extends, Holds};
+ghost use Rattle.parts.specs.Holding.{isText, isNumber, isList, isObject, Extends, Holds, HoldsTo};
 use chars::strings::Decoded;
 use held::limits;
 use text::walk::Kind;
@@ -19,9 +19,25 @@ pub enum Held {
     Wrong,
 }
 
+// What was held ends before `past` in the run, and what says it before `end` in the text; or it is not as it has to be.
+pub enum Ended {
+    Past { past: usize, end: usize },
+    Wrong,
+}
+
 // So many things were held, up to this place; or one of them is not as it has to be.
 pub enum Counted {
     Several { past: usize, count: usize },
+    Wrong,
+}
+
+// So many things were held, up to `past`, of a list that ends before `end` in the text; or one is not as it has to be.
+pub enum Listed {
+    Several {
+        past: usize,
+        end: usize,
+        count: usize,
+    },
     Wrong,
 }
 
@@ -111,6 +127,27 @@ pub fn hold_text(s: &[u8], v: usize, run: &mut [u32], at: usize) -> Held
     let from = q.from;
     let to = q.to;
     hold_raw(&s[from..to], run, at)
+}
+
+// The string that stands at a place, and where it ends.
+pub fn hold_string(s: &[u8], v: usize, run: &mut [u32], at: usize) -> Ended
+    requires { ⌜ Holdable (now s) v (now run) at 0 ⌝ }
+    ensures { λ r. ⌜ ((t : Json) (e : ℕ) → Stands (now (s .entry)) t v e → HoldsTo heldText (now (run .entry)) (now (run .exit)) at (charactersOf t) e r) ⌝ }
+{
+    if !is_text(text::walk::kind_at(s, v)) {
+        return Ended::Wrong;
+    }
+    let q = text::walk::quoted(s, v);
+    let from = q.from;
+    let to = q.to;
+    let h = hold_raw(&s[from..to], run, at);
+    let Held::Past(past) = h else {
+        return Ended::Wrong;
+    };
+    Ended::Past {
+        past: past,
+        end: to + 1,
+    }
 }
 
 // The number's two halves, the upper one marked; answers the place behind them.

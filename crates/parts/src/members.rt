@@ -79,7 +79,7 @@ fn of_context(raw: &[u8]) -> usize
 }
 
 // The turn of a raw name among a layout's words, counted from 1; 0 where it is none of them.
-fn which(raw: &[u8], layout: Layout) -> usize
+pub fn which(raw: &[u8], layout: Layout) -> usize
     ensures { λ r. ⌜ r ≡ whichOf (wordsOf layout) (now (raw .entry)) ⌝ }
 {
     match layout {
@@ -90,29 +90,32 @@ fn which(raw: &[u8], layout: Layout) -> usize
     }
 }
 
-// Where the values of an object's members stand, by their word's turn; 0 for one that is absent. At 0 stands 1 where a
-// name is unknown or repeated.
+// Where the values of an object's members stand, by their word's turn; 0 for one that is absent. At 0 stands the place
+// past the object, or 0 where a name is unknown or repeated.
 pub fn slots(s: &[u8], v: usize, layout: Layout) -> [usize; 6]
     requires { ⌜ StandingObject (now s) v ⌝ }
-    ensures { λ r. ⌜ ((ms : Members) (e : ℕ) → Stands (now (s .entry)) (object ms) v e → Slotted (now (s .entry)) (wordsOf layout) ms r) ⌝ }
+    ensures { λ r. ⌜ ((ms : Members) (e : ℕ) → Stands (now (s .entry)) (object ms) v e → Slotted (now (s .entry)) (wordsOf layout) ms e r) ⌝ }
 {
     let mut places = [0usize; 6];
     let mut m = walk::first_member(s, v);
     loop {
-        let Member::Named { name, end, value } = m else {
-            return places;
-        };
-        let k = which(&s[name..end], layout);
-        if k == 0 {
-            places[0] = 1;
-            return places;
+        match m {
+            Member::Named { name, end, value } => {
+                let k = which(&s[name..end], layout);
+                if k == 0 {
+                    return places;
+                }
+                if places[k] != 0 {
+                    return places;
+                }
+                places[k] = value;
+                let e = walk::past_value(s, value);
+                m = walk::next_member(s, e);
+            }
+            Member::Past(e) => {
+                places[0] = e;
+                return places;
+            }
         }
-        if places[k] != 0 {
-            places[0] = 1;
-            return places;
-        }
-        places[k] = value;
-        let e = walk::past_value(s, value);
-        m = walk::next_member(s, e);
     }
 }

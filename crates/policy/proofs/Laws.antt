@@ -9,4 +9,6 @@ pub mod StatementsParts
 pub mod StatementsRead
 pub mod Statements
 pub mod StatementsPolicy
+pub mod Partway
+pub mod PartwayOn
 pub mod Requests

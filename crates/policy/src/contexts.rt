@@ -12,11 +12,12 @@ ghost use Rattle.held.specs.Held.{heldText, heldNumber, heldValue, heldEach, he
 ghost use Rattle.parts.specs.Slots.{Placed};
 ghost use Rattle.parts.specs.Room.{Roomy, Holdable, HoldableList, HoldableSlot};
 ghost use Rattle.held.specs.Lying.{Lies, Lying, LyingMany};
-ghost use Rattle.parts.specs.Holding.{Extends, Holds, Gathers};
+ghost use Rattle.parts.specs.Holding.{Extends, Holds, HoldsTo, Gathers};
 ghost use Rattle.parts.specs.Requests.{Placing, typeOf, typedAs};
 use held::limits;
 use parts::holding;
 use parts::holding::Counted;
+use parts::holding::Ended;
 use parts::holding::Held;
 use parts::members;
 use parts::members::Layout;
@@ -96,27 +97,35 @@ fn hold_typed(s: &[u8], v: usize, run: &mut [u32], at: usize, kind: u32) -> Held
 }
 
 // A context entry: its type, its key and its value.
-fn hold_context(s: &[u8], v: usize, run: &mut [u32], at: usize) -> Held
+fn hold_context(s: &[u8], v: usize, run: &mut [u32], at: usize) -> Ended
     requires { ⌜ Holdable (now s) v (now run) at 0 ⌝ }
-    ensures { λ r. ⌜ ((t : Json) (e : ℕ) → Stands (now (s .entry)) t v e → Holds heldContext (now (run .entry)) (now (run .exit)) at (contextOf t) r) ⌝ }
+    ensures { λ r. ⌜ ((t : Json) (e : ℕ) → Stands (now (s .entry)) t v e → HoldsTo heldContext (now (run .entry)) (now (run .exit)) at (contextOf t) e r) ⌝ }
 {
     if !holding::is_object(walk::kind_at(s, v)) {
-        return Held::Wrong;
+        return Ended::Wrong;
     }
     let places = members::slots(s, v, Layout::Context);
-    if places[0] != 0 {
-        return Held::Wrong;
+    let end = places[0];
+    if end == 0 {
+        return Ended::Wrong;
     }
     let h = hold_key_name(s, places[1], run, at + 1);
     let Held::Past(p) = h else {
-        return Held::Wrong;
+        return Ended::Wrong;
     };
     let kind = type_at(s, places[2]);
     if kind == 0 {
-        return Held::Wrong;
+        return Ended::Wrong;
     }
     run[at] = kind;
-    hold_typed(s, places[3], run, p, kind)
+    let g = hold_typed(s, places[3], run, p, kind);
+    let Held::Past(past) = g else {
+        return Ended::Wrong;
+    };
+    Ended::Past {
+        past: past,
+        end: end,
+    }
 }
 
 // The place behind the context entry that lies at a place.
@@ -173,16 +182,15 @@ fn hold_differing(s: &[u8], v: usize, run: &mut [u32], at: usize) -> Counted
             return Counted::Several { past: p, count: n };
         };
         let h = hold_context(s, i, run, p);
-        let Held::Past(q) = h else {
+        let Ended::Past { past, end } = h else {
             return Counted::Wrong;
         };
         if has_context_key(run, at, n, p) {
             return Counted::Wrong;
         }
-        p = q;
+        p = past;
         n = n + 1;
-        let e = walk::past_value(s, i);
-        m = walk::next_element(s, e);
+        m = walk::next_element(s, end);
     }
 }
 

@@ -12,6 +12,9 @@ use text::scan;
 use text::verdict::Verdict;
 use text::walk;
 
+// A policy text of so many bytes is held in a run of as many numbers, most are no longer; a longer one needs a longer run.
+pub const SHORT: usize = 4096;
+
 // What was read lies at the run's beginning, up to this place; or a refusal.
 pub enum Read {
     Held(usize),

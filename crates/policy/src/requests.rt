@@ -113,7 +113,7 @@ pub fn hold_request(s: &[u8], v: usize, run: &mut [u32]) -> Held
         return Held::Wrong;
     }
     let places = members::slots(s, v, Layout::Record);
-    if places[0] != 0 {
+    if places[0] == 0 {
         return Held::Wrong;
     }
     let a = hold_action_name(s, places[1], run, 0);

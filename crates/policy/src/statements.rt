@@ -10,22 +10,35 @@ ghost use Rattle.syntax.specs.PolicyLayout.{sidOf, conditionOf, statementOf, sa
 ghost use Rattle.held.specs.Held.{heldText, heldList, heldRow, heldStatement, held};
 ghost use Rattle.parts.specs.Room.{Holdable, HoldableList, HoldableObject, HoldableSlot};
 ghost use Rattle.parts.specs.Spoken.{toldEffect};
-ghost use Rattle.parts.specs.Holding.{Holds, Gathers};
-ghost use Rattle.policy.specs.Statements.{effectTold, partsOf, heldParts};
+ghost use Rattle.parts.specs.Holding.{Holds, HoldsTo, GathersTo};
+ghost use Rattle.policy.specs.Statements.{effectTold, partsOf, heldParts, Adds};
 ghost use Rattle.policy.specs.Statements.{HoldableParts, HoldablePolicy};
 use crate::rows;
 use held::runs;
 use parts::entries;
 use parts::entries::Entry;
 use parts::holding;
-use parts::holding::Counted;
+use parts::holding::Ended;
 use parts::holding::Held;
+use parts::holding::Listed;
 use parts::members;
 use parts::members::Layout;
 use parts::words;
 use parts::words::Effect;
 use text::walk;
 use text::walk::Element;
+use text::walk::Member;
+
+// A policy's members so far: where Version's value stands, and before which place of the run ends what was held of
+// Statement; 0 for one that has not come. The last of them ends before `end` in the text. Or there is no policy.
+pub enum Partly {
+    So {
+        version: usize,
+        past: usize,
+        end: usize,
+    },
+    Wrong,
+}
 
 // The number that tells an effect, 0 for one that is wrong.
 fn effect_number(e: Effect) -> u32
@@ -91,98 +104,181 @@ fn hold_parts(
 }
 
 // The statement that an object is.
-fn hold_object(s: &[u8], v: usize, run: &mut [u32], at: usize) -> Held
+fn hold_object(s: &[u8], v: usize, run: &mut [u32], at: usize) -> Ended
     requires { ⌜ HoldableObject (now s) v (now run) at ⌝ }
-    ensures { λ r. ⌜ ((ms : Members) (e : ℕ) → Stands (now (s .entry)) (object ms) v e → Holds heldStatement (now (run .entry)) (now (run .exit)) at (statementOf (object ms)) r) ⌝ }
+    ensures { λ r. ⌜ ((ms : Members) (e : ℕ) → Stands (now (s .entry)) (object ms) v e → HoldsTo heldStatement (now (run .entry)) (now (run .exit)) at (statementOf (object ms)) e r) ⌝ }
 {
     let places = members::slots(s, v, Layout::Statement);
-    if places[0] != 0 {
-        return Held::Wrong;
+    let end = places[0];
+    if end == 0 {
+        return Ended::Wrong;
     }
     let effect = places[2];
     if effect == 0 {
-        return Held::Wrong;
+        return Ended::Wrong;
     }
     let action = places[3];
     if action == 0 {
-        return Held::Wrong;
+        return Ended::Wrong;
     }
     let resource = places[4];
     if resource == 0 {
-        return Held::Wrong;
+        return Ended::Wrong;
     }
     let n = effect_number(words::effect_at(s, effect));
     if n == 0 {
-        return Held::Wrong;
+        return Ended::Wrong;
     }
     let first = at + 1;
     let h = hold_parts(s, places[1], action, resource, places[5], run, first);
     let Held::Past(p) = h else {
-        return Held::Wrong;
+        return Ended::Wrong;
     };
     run[at] = n;
-    Held::Past(p)
+    Ended::Past { past: p, end: end }
 }
 
 // The statement that stands at a place.
-fn hold_statement(s: &[u8], v: usize, run: &mut [u32], at: usize) -> Held
+fn hold_statement(s: &[u8], v: usize, run: &mut [u32], at: usize) -> Ended
     requires { ⌜ Holdable (now s) v (now run) at 0 ⌝ }
-    ensures { λ r. ⌜ ((t : Json) (e : ℕ) → Stands (now (s .entry)) t v e → Holds heldStatement (now (run .entry)) (now (run .exit)) at (statementOf t) r) ⌝ }
+    ensures { λ r. ⌜ ((t : Json) (e : ℕ) → Stands (now (s .entry)) t v e → HoldsTo heldStatement (now (run .entry)) (now (run .exit)) at (statementOf t) e r) ⌝ }
 {
     if !holding::is_object(walk::kind_at(s, v)) {
-        return Held::Wrong;
+        return Ended::Wrong;
     }
     hold_object(s, v, run, at)
 }
 
 // The statements of the list that stands at a place; no two have the same Sid.
-fn hold_statements(s: &[u8], v: usize, run: &mut [u32], at: usize) -> Counted
+fn hold_statements(s: &[u8], v: usize, run: &mut [u32], at: usize) -> Listed
     requires { ⌜ HoldableList (now s) v (now run) at ⌝ }
-    ensures { λ r. ⌜ ((ts : Values) (e : ℕ) → Stands (now (s .entry)) (list ts) v e → Gathers heldStatement (now (run .entry)) (now (run .exit)) at (then (each statementOf ts) (differing sameSid)) r) ⌝ }
+    ensures { λ r. ⌜ ((ts : Values) (e : ℕ) → Stands (now (s .entry)) (list ts) v e → GathersTo heldStatement (now (run .entry)) (now (run .exit)) at (then (each statementOf ts) (differing sameSid)) e r) ⌝ }
 {
     let mut m = walk::first_element(s, v);
     let mut p = at;
     let mut n = 0usize;
     loop {
-        let Element::At(i) = m else {
-            return Counted::Several { past: p, count: n };
-        };
-        let h = hold_statement(s, i, run, p);
-        let Held::Past(q) = h else {
-            return Counted::Wrong;
-        };
-        if runs::has_sid(run, at, n, p) {
-            return Counted::Wrong;
+        match m {
+            Element::At(i) => {
+                let h = hold_statement(s, i, run, p);
+                let Ended::Past { past, end } = h else {
+                    return Listed::Wrong;
+                };
+                if runs::has_sid(run, at, n, p) {
+                    return Listed::Wrong;
+                }
+                p = past;
+                n = n + 1;
+                m = walk::next_element(s, end);
+            }
+            Element::Past(e) => {
+                return Listed::Several {
+                    past: p,
+                    end: e,
+                    count: n,
+                };
+            }
         }
-        p = q;
-        n = n + 1;
-        let e = walk::past_value(s, i);
-        m = walk::next_element(s, e);
     }
 }
 
 // One statement or a list of at least one, behind their number.
-fn hold_several(s: &[u8], v: usize, run: &mut [u32]) -> Held
+fn hold_several(s: &[u8], v: usize, run: &mut [u32]) -> Ended
     requires { ⌜ Holdable (now s) v (now run) 0 1 ⌝ }
-    ensures { λ r. ⌜ ((t : Json) (e : ℕ) → Stands (now (s .entry)) t v e → Holds held (now (run .entry)) (now (run .exit)) 0 (then (oneOrMore statementOf t) (differing sameSid)) r) ⌝ }
+    ensures { λ r. ⌜ ((t : Json) (e : ℕ) → Stands (now (s .entry)) t v e → HoldsTo held (now (run .entry)) (now (run .exit)) 0 (then (oneOrMore statementOf t) (differing sameSid)) e r) ⌝ }
 {
     if !holding::is_list(walk::kind_at(s, v)) {
         let h = hold_statement(s, v, run, 1);
-        let Held::Past(p) = h else {
-            return Held::Wrong;
+        let Ended::Past { past, end } = h else {
+            return Ended::Wrong;
         };
         run[0] = 1;
-        return Held::Past(p);
+        return Ended::Past {
+            past: past,
+            end: end,
+        };
     }
     let c = hold_statements(s, v, run, 1);
-    let Counted::Several { past, count } = c else {
-        return Held::Wrong;
+    let Listed::Several { past, end, count } = c else {
+        return Ended::Wrong;
     };
     if count == 0 {
-        return Held::Wrong;
+        return Ended::Wrong;
     }
     run[0] = count as u32;
-    Held::Past(past)
+    Ended::Past {
+        past: past,
+        end: end,
+    }
+}
+
+// One more member of a policy, by its word's turn `k`, beside what came before it; neither word comes twice.
+fn hold_member(s: &[u8], k: usize, v: usize, run: &mut [u32], version: usize, past: usize) -> Partly
+    requires { ⌜ Holdable (now s) v (now run) 0 1 ⌝ }
+    ensures { λ r. ⌜ ((t : Json) (e : ℕ) → Stands (now (s .entry)) t v e → Adds k v t e (now (run .entry)) (now (run .exit)) version past r) ⌝ }
+{
+    if k == 0 {
+        return Partly::Wrong;
+    }
+    if k == 1 {
+        if version != 0 {
+            return Partly::Wrong;
+        }
+        if !words::is_edition(s, v) {
+            return Partly::Wrong;
+        }
+        return Partly::So {
+            version: v,
+            past: past,
+            end: walk::past_value(s, v),
+        };
+    }
+    if past != 0 {
+        return Partly::Wrong;
+    }
+    let h = hold_several(s, v, run);
+    let Ended::Past { past: p, end } = h else {
+        return Partly::Wrong;
+    };
+    Partly::So {
+        version: version,
+        past: p,
+        end: end,
+    }
+}
+
+// The policy that an object is, from the run's beginning on: each member is held where the walk comes to it.
+fn hold_members(s: &[u8], v: usize, run: &mut [u32]) -> Held
+    requires { ⌜ HoldableObject (now s) v (now run) 1 ⌝ }
+    ensures { λ r. ⌜ ((ms : Members) (e : ℕ) → Stands (now (s .entry)) (object ms) v e → Holds held (now (run .entry)) (now (run .exit)) 0 (policyOf (object ms)) r) ⌝ }
+{
+    let mut version = 0usize;
+    let mut past = 0usize;
+    let mut m = walk::first_member(s, v);
+    loop {
+        let Member::Named { name, end, value } = m else {
+            if version == 0 {
+                return Held::Wrong;
+            }
+            if past == 0 {
+                return Held::Wrong;
+            }
+            return Held::Past(past);
+        };
+        let k = members::which(&s[name..end], Layout::Policy);
+        let h = hold_member(s, k, value, run, version, past);
+        let Partly::So {
+            version: w,
+            past: p,
+            end: e,
+        } = h
+        else {
+            return Held::Wrong;
+        };
+        version = w;
+        past = p;
+        m = walk::next_member(s, e);
+    }
 }
 
 // The policy that stands at a place, from the run's beginning on.
@@ -193,20 +289,5 @@ pub fn hold_policy(s: &[u8], v: usize, run: &mut [u32]) -> Held
     if !holding::is_object(walk::kind_at(s, v)) {
         return Held::Wrong;
     }
-    let places = members::slots(s, v, Layout::Policy);
-    if places[0] != 0 {
-        return Held::Wrong;
-    }
-    let version = places[1];
-    if version == 0 {
-        return Held::Wrong;
-    }
-    let statement = places[2];
-    if statement == 0 {
-        return Held::Wrong;
-    }
-    if !words::is_edition(s, version) {
-        return Held::Wrong;
-    }
-    hold_several(s, statement, run)
+    hold_members(s, v, run)
 }

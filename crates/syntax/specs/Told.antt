@@ -41,6 +41,10 @@ pub record Opened (cs : List ℕ) (i : ℕ) : Type 0 where
   pub dollar : getD cs i 0 ≡ 36
   pub brace : getD (drop i cs) 1 0 ≡ 123
 
+-- no character begins an escape
+abbrev pub NoDollar : List ℕ → Type 0
+NoDollar cs = (k : ℕ) → k < length cs → getD cs k 0 ≡ 36 → ⊥
+
 abbrev pub onward : Step → Bool → List ℕ → Reading (List ℕ)
 onward (S.Symbol c past) w cs = ahead c (symbolsOf w (drop past cs))
 onward S.Wrong w cs = wrong

@@ -1,10 +1,11 @@
 // The symbols of an entry: its wildcards, and its escapes resolved.
 ghost use mathlib.Core.Path.{_≡_};
+ghost use mathlib.Core.Bool.{false};
 ghost use mathlib.Core.List.{map};
 ghost use Prim.Native.Nat.{_<_};
 ghost use lib.ListN.{length};
 ghost use Rattle.syntax.specs.Forms.{wildcard, symbol, symbolsOf};
-ghost use Rattle.syntax.specs.Told.{isRead, Opened, Says, converted};
+ghost use Rattle.syntax.specs.Told.{isRead, Opened, NoDollar, Says, converted};
 use crate::forms;
 
 // So many symbols; or an escape is none of the three.
@@ -96,7 +97,7 @@ fn escapes_right(cs: &[u32], wild: bool) -> bool
 
 // The symbols of an entry, in the place of the characters that say them. All escapes are looked at before the first
 // store, so that a run with a wrong one stays as it was.
-pub fn symbols(run: &mut [u32], wild: bool) -> Converted
+fn escaped_symbols(run: &mut [u32], wild: bool) -> Converted
     ensures { λ r. ⌜ (r, now (run .exit)) ≡ converted (symbolsOf wild (now (run .entry))) (now (run .entry)) ⌝ }
 {
     if !escapes_right(run, wild) {
@@ -113,4 +114,38 @@ pub fn symbols(run: &mut [u32], wild: bool) -> Converted
         i = past;
     }
     Converted::Count(n)
+}
+
+// Is one of the characters a dollar? Without branches, so that many are tested at once.
+fn has_dollar(cs: &[u32]) -> bool
+    ensures { λ r. ⌜ (r ≡ false → NoDollar (now (cs .entry))) ⌝ }
+{
+    let mut found = false;
+    let mut i = 0;
+    while i < cs.len() {
+        found = found | (cs[i] == 36);
+        i += 1;
+    }
+    found
+}
+
+// The symbols of an entry without a dollar, and so without an escape.
+fn plain_symbols(run: &mut [u32], wild: bool) -> Converted
+    requires { ⌜ NoDollar (now run) ⌝ }
+    ensures { λ r. ⌜ (r, now (run .exit)) ≡ converted (symbolsOf wild (now (run .entry))) (now (run .entry)) ⌝ }
+{
+    if wild {
+        wildcards(run);
+    }
+    Converted::Count(run.len())
+}
+
+// The symbols of an entry, in the place of the characters that say them; a run with a wrong escape stays as it was.
+pub fn symbols(run: &mut [u32], wild: bool) -> Converted
+    ensures { λ r. ⌜ (r, now (run .exit)) ≡ converted (symbolsOf wild (now (run .entry))) (now (run .entry)) ⌝ }
+{
+    if has_dollar(run) {
+        return escaped_symbols(run, wild);
+    }
+    plain_symbols(run, wild)
 }

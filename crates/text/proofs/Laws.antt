@@ -20,6 +20,7 @@ pub mod Levels
 pub mod Stable
 pub mod Verdict
 pub mod Contents
+pub mod Seeking
 pub mod Skipping
 pub mod Meaning
 pub mod Printing

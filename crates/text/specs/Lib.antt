@@ -5,4 +5,5 @@ pub mod Contents
 pub mod Printing
 pub mod Machine
 pub mod Reading
+pub mod Seeking
 pub mod Skipping

@@ -3,6 +3,8 @@
 --   level b n        so many brackets are open behind the byte b, where n are open before it
 --   Steps s i j      from place i the walk goes on at place j
 --   Closes s n i e   where n brackets are open at place i, the last of them closes right before place e
+--   Plain b          the byte b is no quote and opens and closes nothing
+--   Idles s a i      from place a to place i nothing is opened or closed
 use mathlib.Core.Path.{_≡_}
 use mathlib.Core.List.{List, [], _∷_}
 use Prim.Native.Nat.{ℕ, _+_, _-_, _≤_, _<_}
@@ -27,6 +29,14 @@ pub data Closes (s : List ℕ) : ℕ → ℕ → ℕ → Type 0 where
   over : {e : ℕ} → Closes s 0 e e
   on : {n i j e : ℕ} → 0 < n → i < length s → Steps s i j → Closes s (level (getD s i 0) n) j e → Closes s n i e
 
+pub record Plain (b : ℕ) : Type 0 where
+  pub keeps : (n : ℕ) → level b n ≡ n
+  pub no-quote : b ≡ 34 → ⊥
+
+pub record Idles (s : List ℕ) (a i : ℕ) : Type 0 where
+  pub low : a ≤ i
+  pub goes : (n e : ℕ) → 0 < n → Closes s n a e → Closes s n i e
+
 -- ---- what the code asks
 
 pub record Stepping (s : List ℕ) (i : ℕ) : Type 0 where
@@ -39,6 +49,13 @@ pub record Counting (s : List ℕ) (i deep : ℕ) : Type 0 where
   pub inside : i < length s
   pub some : 0 < deep
   pub few : deep ≤ i
+
+-- `deep` brackets are open at i, and they close
+pub record Waiting (s : List ℕ) (i : ℕ) : Type 0 where
+  pub deep : ℕ
+  pub some : 0 < deep
+  pub stop : ℕ
+  pub closes : Closes s deep i stop
 
 -- a list or an object is open behind place v
 pub record Closing (s : List ℕ) (v : ℕ) : Type 0 where

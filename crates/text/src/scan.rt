@@ -5,11 +5,12 @@ ghost use mathlib.Core.Path.{_≡_};
 ghost use Prim.Native.Nat.{_≤_};
 ghost use lib.ListN.{length};
 ghost use Rattle.text.specs.Machine.{ws, byte, text, value, before, close, verdict};
-ghost use Rattle.text.specs.Reading.{Done, Blank, Goes, Begins, Opens, Follows};
+ghost use Rattle.text.specs.Reading.{Done, Goes, Begins, Opens, Follows};
 use crate::numbers;
 use crate::quoted;
 use crate::verdict::Part;
 use crate::verdict::Verdict;
+use crate::white;
 
 // Levels that a text may open.
 pub const LEVELS: usize = 16;
@@ -33,21 +34,20 @@ pub enum Next {
     Fails(Verdict),
 }
 
-// Is it white space? As one test of bits, not one for each.
-fn blank(b: u8) -> bool
-    ensures { λ r. ⌜ Blank b r ⌝ }
-{
-    (b == 9) | (b == 10) | (b == 13) | (b == 32)
-}
-
-// Past white space.
+// Past white space. Behind its first byte there are often many spaces.
 pub fn space(s: &[u8], at: usize) -> usize
     requires { ⌜ at ≤ length (now s) ⌝ }
     ensures { λ r. ⌜ Done (now (s .entry)) (ws ∷ []) at r ⌝ }
 {
-    let mut i = at;
+    if s.len() <= at {
+        return at;
+    }
+    if !white::blank(s[at]) {
+        return at;
+    }
+    let mut i = white::spaces(s, at + 1);
     while i < s.len() {
-        if !blank(s[i]) {
+        if !white::blank(s[i]) {
             return i;
         }
         i += 1;

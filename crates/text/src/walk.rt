@@ -1,4 +1,5 @@
 // A walk over a text known to be whole, in place: each function promises which piece of the tree stands where.
+ghost use mathlib.Core.Bool.{true};
 ghost use mathlib.Core.Path.{_≡_};
 ghost use Prim.Native.Nat.{ℕ, _+_};
 ghost use lib.ListN.{getD};
@@ -8,9 +9,10 @@ ghost use Rattle.text.specs.Machine.{verdict};
 ghost use Rattle.text.specs.Contents.{Stands, Rest, Others, Standing, StandingText, StandingList};
 ghost use Rattle.text.specs.Contents.{StandingObject, Resting, Continuing, kindOf, Raw, Comes, Leads, Rooted};
 ghost use Rattle.text.specs.Contents.{Entry, Entering};
-ghost use Rattle.text.specs.Skipping.{level, Steps, Closes, Stepping, Counting, Closing};
+ghost use Rattle.text.specs.Skipping.{level, Steps, Closes, Plain, Idles};
+ghost use Rattle.text.specs.Skipping.{Stepping, Counting, Waiting, Closing};
 ghost use Rattle.text.specs.declared.verdict.Verdict.the-variants.{Whole};
-use crate::quoted;
+use crate::ends;
 use crate::scan;
 use crate::verdict::Part;
 
@@ -63,11 +65,7 @@ fn past_one(s: &[u8], i: usize) -> usize
     if s[i] != 34 {
         return i + 1;
     }
-    let r = quoted::string(s, i + 1);
-    match r {
-        Part::Past(q) => q,
-        Part::Fails(_) => i,
-    }
+    ends::past_quote(s, i + 1)
 }
 
 // How many brackets are open behind the byte at a place.
@@ -85,6 +83,25 @@ fn open_past(s: &[u8], i: usize, deep: usize) -> usize
     }
 }
 
+// Is it a byte that is no quote and no bracket?
+fn idle(b: u8) -> bool
+    ensures { λ r. ⌜ (r ≡ true → Plain b) ⌝ }
+{
+    (b != 34) & (b != 91) & (b != 93) & (b != 123) & (b != 125)
+}
+
+// The place of the next quote or bracket: one comes, since a bracket is open.
+fn past_idle(s: &[u8], at: usize) -> usize
+    requires { ⌜ Waiting (now s) at ⌝ }
+    ensures { λ r. ⌜ Idles (now (s .entry)) at r ⌝ }
+{
+    let mut i = at;
+    while idle(s[i]) {
+        i += 1;
+    }
+    i
+}
+
 // The place past the list or object that opens at a place: brackets are counted, strings passed whole.
 fn past_closed(s: &[u8], v: usize) -> usize
     requires { ⌜ Closing (now s) v ⌝ }
@@ -93,6 +110,7 @@ fn past_closed(s: &[u8], v: usize) -> usize
     let mut i = v + 1;
     let mut deep: usize = 1;
     while 0 < deep {
+        i = past_idle(s, i);
         deep = open_past(s, i, deep);
         i = past_one(s, i);
     }
@@ -120,6 +138,7 @@ pub fn past_value(s: &[u8], v: usize) -> usize
     match b {
         91 => past_closed(s, v),
         123 => past_closed(s, v),
+        34 => ends::past_quote(s, v + 1),
         _ => past_leaf(s, v),
     }
 }
@@ -147,16 +166,9 @@ pub fn quoted(s: &[u8], v: usize) -> Span
     ensures { λ r. ⌜ ((w : List ℕ) (e : ℕ) → Stands (now (s .entry)) (string w) v e → Raw (now (s .entry)) w e r) ⌝ }
 {
     let from = v + 1;
-    let r = quoted::string(s, from);
-    match r {
-        Part::Past(q) => Span {
-            from: from,
-            to: q - 1,
-        },
-        Part::Fails(_) => Span {
-            from: from,
-            to: from,
-        },
+    Span {
+        from: from,
+        to: ends::past_quote(s, from) - 1,
     }
 }
 
@@ -189,18 +201,13 @@ fn entry(s: &[u8], i: usize) -> Member
     requires { ⌜ Entering (now s) i ⌝ }
     ensures { λ r. ⌜ ((ms : Members) (e : ℕ) → Entry (now (s .entry)) ms i e → Leads (now (s .entry)) i ms e r) ⌝ }
 {
-    let r = quoted::string(s, i + 1);
-    match r {
-        Part::Past(q) => {
-            let c = scan::space(s, q);
-            let v = scan::space(s, c + 1);
-            Member::Named {
-                name: i + 1,
-                end: q - 1,
-                value: v,
-            }
-        }
-        Part::Fails(_) => Member::Past(i),
+    let q = ends::past_quote(s, i + 1);
+    let c = scan::space(s, q);
+    let v = scan::space(s, c + 1);
+    Member::Named {
+        name: i + 1,
+        end: q - 1,
+        value: v,
     }
 }
 

@@ -142,12 +142,12 @@ zero-past row i h e =
     ∙ ap (λ (b : Bool). pick b (isZero (drop (suc i) row)) false) (sym (eq-eqb (getD row i 0) 0 e))
     ∙ ap isZero (sym (drop-cons row i 0 h))
 
--- one more of eight
-pub eight-next :
+-- one more of a block
+pub block-next :
     (row : List ℕ) (at j : ℕ) (z : Bool) → (z ≡ true → isZero (drop (at + j) row) ≡ isZero (drop at row))
     → at + j < length row → (z && eqb (getD row (at + j) 0) 0) ≡ true
     → isZero (drop (at + (j + 1)) row) ≡ isZero (drop at row)
-eight-next row at j z w h e =
+block-next row at j z w h e =
     let b = each-true z (eqb (getD row (at + j) 0) 0) e in
     let k : at + (j + 1) ≡ at + j + 1 = omega arith in
     ap (λ (n : ℕ). isZero (drop n row)) k

@@ -11,11 +11,15 @@ use Rattle.chars.specs.Putting.{lay}
 use Rattle.syntax.specs.Forms.{Reading, wrong, read, symbolsOf, isResource}
 use Rattle.syntax.specs.Members.{then, only}
 use Rattle.held.specs.Held.{heldText}
-use Rattle.parts.specs.Holding.{Extends, Laid, Left, Holds, Gathered, Gathers, Kept}
+use Rattle.parts.specs.Holding.{Extends, Laid, Left, Holds, HoldsTo, Gathered, Gathers, GathersTo, Kept}
 use Rattle.parts.specs.declared.holding.Held.{Held}
 use Rattle.parts.specs.declared.holding.Held.the-variants.{Past, Wrong}
+use Rattle.parts.specs.declared.holding.Ended.{Ended}
+use Rattle.parts.specs.declared.holding.Ended.the-variants as N
 use Rattle.parts.specs.declared.holding.Counted.{Counted}
 use Rattle.parts.specs.declared.holding.Counted.the-variants as C
+use Rattle.parts.specs.declared.holding.Listed.{Listed}
+use Rattle.parts.specs.declared.holding.Listed.the-variants as L
 use Rattle.parts.proofs.Laws.Holding.{laid-extends}
 use Rattle.parts.proofs.Laws.Extends.{extends-all, extends-within, extends-then, extends-front, extends-after}
 
@@ -30,6 +34,26 @@ pub holds-wrong :
     {A : Type 0} (h : A → List ℕ) (run run′ : List ℕ) (at : ℕ) (x : Reading A) {r : Held}
     → Holds h run run′ at x r → r ≡ Wrong → Left run run′ x
 holds-wrong h run run′ at x f e = subst (Holds h run run′ at x) e f
+
+pub ends-past :
+    {A : Type 0} (h : A → List ℕ) (run run′ : List ℕ) (at : ℕ) (x : Reading A) (e : ℕ) {r : Ended} {p q : ℕ}
+    → HoldsTo h run run′ at x e r → r ≡ N.Past p q → (Laid h run run′ at x p) × (q ≡ e)
+ends-past h run run′ at x e f z = subst (HoldsTo h run run′ at x e) z f
+
+pub ends-wrong :
+    {A : Type 0} (h : A → List ℕ) (run run′ : List ℕ) (at : ℕ) (x : Reading A) (e : ℕ) {r : Ended}
+    → HoldsTo h run run′ at x e r → r ≡ N.Wrong → Left run run′ x
+ends-wrong h run run′ at x e f z = subst (HoldsTo h run run′ at x e) z f
+
+pub lists-several :
+    {A : Type 0} (h : A → List ℕ) (run run′ : List ℕ) (at : ℕ) (x : Reading (List A)) (e : ℕ) {r : Listed} {p q n : ℕ}
+    → GathersTo h run run′ at x e r → r ≡ L.Several p q n → (Gathered h run run′ at x p n) × (q ≡ e)
+lists-several h run run′ at x e f z = subst (GathersTo h run run′ at x e) z f
+
+pub lists-wrong :
+    {A : Type 0} (h : A → List ℕ) (run run′ : List ℕ) (at : ℕ) (x : Reading (List A)) (e : ℕ) {r : Listed}
+    → GathersTo h run run′ at x e r → r ≡ L.Wrong → Left run run′ x
+lists-wrong h run run′ at x e f z = subst (GathersTo h run run′ at x e) z f
 
 pub gathers-several :
     {A : Type 0} (h : A → List ℕ) (run run′ : List ℕ) (at : ℕ) (x : Reading (List A)) {r : Counted} {p n : ℕ}

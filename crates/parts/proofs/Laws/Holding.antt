@@ -25,8 +25,9 @@ use Rattle.syntax.specs.Forms.{Reading, wrong, read}
 use Rattle.syntax.specs.Members.{only, characters, charactersOf}
 use Rattle.held.specs.Held.{heldText}
 use Rattle.parts.specs.Room.{Roomy, cost}
-use Rattle.parts.specs.Holding.{isText, Extends, Laid, Holds}
+use Rattle.parts.specs.Holding.{isText, Extends, Laid, Left, Holds}
 use Rattle.parts.specs.declared.holding.Held.{Held}
+use Rattle.parts.specs.declared.holding.Held.the-variants as H
 use Rattle.parts.proofs.Laws.Extends.{extends-front}
 
 -- ---- strings and other values
@@ -143,6 +144,13 @@ text-said {s} {v} {e} {t} q p h f =
     let r = f (a .raw) e (subst (λ (u : Json). Stands s u v e) (a .is) p) in
     ap charactersOf (a .is) ∙ ap characters (sym (r .is))
 
+-- and it ends behind its last quote
+pub text-ends :
+    {s : List ℕ} {v e : ℕ} {t : Json} (q : Span) → Stands s t v e → isText (kindOf t) ≡ true
+    → ((w : List ℕ) (f : ℕ) → Stands s (string w) v f → Raw s w f q) → q .to + 1 ≡ e
+text-ends {s} {v} {e} {t} q p h f =
+    let a = is-string t h in f (a .raw) e (subst (λ (u : Json). Stands s u v e) (a .is) p) .past
+
 module _ (run w after : List ℕ) (at : ℕ) (room : Roomy run at (1 + length w)) where
   abbrev size : ℕ
   size = length run - (at + 1)
@@ -209,3 +217,16 @@ pub holds-alike :
     {A : Type 0} (h : A → List ℕ) (run run′ : List ℕ) (at : ℕ) (r : Held) (x y : Reading A)
     → x ≡ y → Holds h run run′ at x r → Holds h run run′ at y r
 holds-alike h run run′ at r x y e f = subst (λ z. Holds h run run′ at z r) e f
+
+-- an answer that is known, of what is read likewise
+pub laid-string :
+    {A : Type 0} (h : A → List ℕ) {run run′ : List ℕ} {at p : ℕ} {r : Held} {x y : Reading A}
+    → Holds h run run′ at x r → r ≡ H.Past p → x ≡ y → Laid h run run′ at y p
+laid-string {A} h {run} {run′} {at} {p} {r} {x} {y} f e g =
+    subst (λ (z : Reading A). Holds h run run′ at z (H.Past p)) g (subst (λ (q : Held). Holds h run run′ at x q) e f)
+
+pub left-string :
+    {A : Type 0} (h : A → List ℕ) {run run′ : List ℕ} (at : ℕ) {r : Held} {x y : Reading A}
+    → Holds h run run′ at x r → r ≡ H.Wrong → x ≡ y → Left run run′ y
+left-string {A} h {run} {run′} at {r} {x} {y} f e g =
+    subst (λ (z : Reading A). Holds h run run′ at z H.Wrong) g (subst (λ (q : Held). Holds h run run′ at x q) e f)

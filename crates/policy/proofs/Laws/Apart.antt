@@ -1,11 +1,11 @@
 -- Things gathered from a list's elements, no two of them alike.
-use mathlib.Core.Path.{_≡_, ap, _∙_}
+use mathlib.Core.Path.{_≡_, ap, _∙_, subst}
 use mathlib.Core.Bool.{Bool, true, false}
 use mathlib.Core.List.{List, _++_}
 use Prim.Native.Nat.{ℕ, _+_, _≤_}
 use native.Mathlib.Omega.{arith}
 use lib.ListN.{length}
-use Rattle.text.specs.Json.{Json, list, Values}
+use Rattle.text.specs.Json.{Json, list, Values, no-more}
 use Rattle.text.specs.Contents.{Stands, Rest, Comes, First}
 use Rattle.text.specs.declared.walk.Element.{Element}
 use Rattle.text.specs.declared.walk.Element.the-variants as E
@@ -17,6 +17,7 @@ use Rattle.held.specs.Lying.{Lies, Lying, LyingMany}
 use Rattle.parts.specs.Holding.{Extends, Laid, Left, Gathered}
 use Rattle.parts.proofs.Laws.Extends.{extends-then, extends-lies, extends-within}
 use Rattle.parts.proofs.Laws.Formed.{left-then}
+use Rattle.parts.proofs.Laws.Walking.{stands-past}
 use Rattle.held.proofs.Laws.Runs.{lies-front}
 use Rattle.parts.proofs.Laws.Differ.{differ-snoc}
 use Rattle.parts.proofs.Laws.Sofar.{sofar-same, twice-wrong, apart-read}
@@ -62,6 +63,13 @@ module _ {A : Type 0} {h : A → List ℕ} {f : Json → Reading A}
         count = state .count;
         extends = state .sofar .extends;
       })
+
+  -- where it ends
+  pub apart-past : (q : ℕ) → m ≡ E.Past q → (ts : Values) (e : ℕ) → Stands s (list ts) v e → q ≡ e
+  apart-past q k ts e l =
+      let c : (state .left ≡ no-more) × (q ≡ state .stop) =
+      subst (Comes s (state .low) (state .left) (state .stop)) k (state .comes) in
+      c .1 ∙ stands-past (state .list-is) l
 
   module _ (i : ℕ) (q : m ≡ E.At i) where
     abbrev pub after : First s (state .low) (state .left) (state .stop) i

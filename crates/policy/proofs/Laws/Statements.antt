@@ -20,10 +20,10 @@ use Rattle.syntax.specs.PolicyLayout.{actionOf, resourceOf, conditionOf, effect
 use Rattle.syntax.specs.PolicyLayout.{statementOf}
 use Rattle.held.specs.Held.{heldStatement, effectNumber}
 use Rattle.parts.specs.Room.{cost, costm}
-use Rattle.parts.specs.Holding.{isObject, Extends, Laid, Left, Holds}
+use Rattle.parts.specs.Holding.{isObject, Extends, Laid, Left, HoldsTo}
 use Rattle.policy.specs.Statements.{effectTold, partsOf, heldParts, HoldableParts}
 use Rattle.policy.specs.Statements as S
-use Rattle.parts.specs.declared.holding.Held.{Held}
+use Rattle.parts.specs.declared.holding.Ended.{Ended}
 use Rattle.parts.specs.declared.members.Layout.the-variants as L
 use Rattle.parts.proofs.Laws.Holding.{never}
 use Rattle.parts.proofs.Laws.Extends.{extends-front}
@@ -48,11 +48,11 @@ not-object (list ts) e = refl
 not-object (object ms) e = never (sym e)
 
 pub of-object :
-    (run run′ : List ℕ) (at : ℕ) (r : Held) (t : Json) (h : isObject (kindOf t) ≡ true)
-    → Holds heldStatement run run′ at (statementOf (object (is-object t h .inside))) r
-    → Holds heldStatement run run′ at (statementOf t) r
-of-object run run′ at r t h g =
-    subst (λ (u : Json). Holds heldStatement run run′ at (statementOf u) r) (sym (is-object t h .is)) g
+    (run run′ : List ℕ) (at e : ℕ) (r : Ended) (t : Json) (h : isObject (kindOf t) ≡ true)
+    → HoldsTo heldStatement run run′ at (statementOf (object (is-object t h .inside))) e r
+    → HoldsTo heldStatement run run′ at (statementOf t) e r
+of-object run run′ at e r t h g =
+    subst (λ (u : Json). HoldsTo heldStatement run run′ at (statementOf u) e r) (sym (is-object t h .is)) g
 
 module _ (ms : Members) where
   abbrev pub Has : Statement → Type 0
@@ -90,13 +90,17 @@ module _ (ms : Members) where
       by (suc (suc (suc (suc (suc zero))))) t e x h = both-ways (ap (optional [] conditionOf) e) (h .rows-are)
       by (suc (suc (suc (suc (suc (suc k)))))) t e x h = omega (arith, t .to)
 
-  pub slots-left : {s run : List ℕ} {places : List ℕ} → Slotted s (wordsOf L.Statement) ms places
-      → (getD places 0 0 ≡ 0 → ⊥) → Left run run (statementOf (object ms))
+  pub slots-left : {s run : List ℕ} {e : ℕ} {places : List ℕ} → Slotted s (wordsOf L.Statement) ms e places
+      → getD places 0 0 ≡ 0 → Left run run (statementOf (object ms))
   slots-left w n = record { size = refl; said = ⊎-elim unknown-none repeated-none (w .not-right n) }
 
   -- ---- a statement
 
-  module _ {s places : List ℕ} (w : Slotted s (wordsOf L.Statement) ms places) (z : getD places 0 0 ≡ 0) where
+  module _ {s places : List ℕ} {past : ℕ} (w : Slotted s (wordsOf L.Statement) ms past places)
+      (z : getD places 0 0 ≡ 0 → ⊥) where
+    pub slots-end : getD places 0 0 ≡ past
+    slots-end = right L.Statement w z .end
+
     pub sid-placed : Placed s (getD places 1 0) (slot sidWord ms)
     sid-placed = right L.Statement w z .placed 1 (turn-of L.Statement 1 (omega arith) (omega arith))
 

@@ -1,43 +1,39 @@
 -- A policy from the members of its object: one statement or a list of at least one, no two with the same Sid.
 --   single-laid, several-laid ..   the statements behind their number
---   version-missing ..             where a member is unknown, repeated, missing or wrong there is no policy
---   policy-holds                   else it is what its statements are
+--   no-version, no-statements      where a member is missing or wrong there is no policy
+--   not-members                    nor where one is unknown or repeated
+--   policy-is                      else it is what its statements are
 use mathlib.Core.Path.{_≡_, refl, sym, ap, _∙_, subst}
 use mathlib.Core.Bool.{Bool, true, false}
-use mathlib.Core.Logic.{⊎-elim}
+use mathlib.Core.Logic.{_⊎_, ⊎-elim}
 use mathlib.Core.List.{List, [], _∷_}
-use Prim.Native.Nat.{ℕ, zero, suc, _+_, _≤_, _<_}
+use Prim.Native.Nat.{ℕ, zero, suc, _+_, _<_}
 use native.Mathlib.Omega.{arith}
-use lib.ListN.{length, getD, set}
+use lib.ListN.{length, set}
 use Rattle.text.specs.Json.{Json, null, bool, number, string, list, object, Values, no-more, also, Members}
-use Rattle.text.specs.Contents.{kindOf, Standing}
-use Rattle.syntax.specs.Policy.{Statement, Policy}
+use Rattle.text.specs.Contents.{kindOf}
+use Rattle.syntax.specs.Policy.{Statement}
 use Rattle.syntax.specs.Forms.{Reading, wrong, read}
 use Rattle.syntax.specs.Words.{versionWord, statementWord, editionWord}
-use Rattle.syntax.specs.Members.{then, only, isWord, Slot, many, slot, known, required, cons, each}
-use Rattle.syntax.specs.Members.{some, oneOrMore, hasLike, differ, differing}
-use Rattle.parts.specs.Slots.{wordsOf, wordAt, Placed, Turn, Repeated, Slotted}
+use Rattle.syntax.specs.Members.{then, only, isWord, Slot, none, many, one, slot, known, required, cons}
+use Rattle.syntax.specs.Members.{each, some, oneOrMore, hasLike, differ, differing}
+use Rattle.parts.specs.Slots.{wordsOf, wordAt, Turn, Repeated}
 use Rattle.syntax.specs.PolicyLayout.{statementOf, sameSid, policyIn, policyOf}
 use Rattle.held.specs.Held.{heldEach, heldStatement, held}
-use Rattle.parts.specs.Room.{cost, Holdable}
+use Rattle.parts.specs.Room.{cost, costm, HoldableObject}
 use Rattle.parts.specs.Holding.{isList, isObject, Extends, Laid, Left, Gathered, Holds}
+use Rattle.policy.specs.Statements.{statementsOf, HoldablePolicy}
 use Rattle.parts.specs.declared.holding.Held.{Held}
 use Rattle.parts.specs.declared.members.Layout.the-variants as L
 use Rattle.parts.proofs.Laws.Holding.{never}
 use Rattle.parts.proofs.Laws.Extends.{extends-front}
 use Rattle.parts.proofs.Laws.Formed.{then-wrong, then-read, left-then}
-use Rattle.parts.proofs.Laws.Several.{one-is, one-left}
+use Rattle.parts.proofs.Laws.Several.{one-is, one-left, is-object, object-stands}
 use Rattle.parts.proofs.Laws.Sofar.{held-one}
-use Rattle.parts.proofs.Laws.Room.{slotCost, slotsCost, layout-room}
 use Rattle.parts.proofs.Laws.Fits.{then-inv, only-inv, cons-inv}
-use Rattle.policy.proofs.Laws.StatementsParts.{There, placed-absent, placed-there}
-use Rattle.policy.proofs.Laws.StatementsRead.{not-read, both-ways, pick-no, pick-wrong, pick-yes, right, turn-of}
-use Rattle.policy.proofs.Laws.StatementsRead.{required-none}
+use Rattle.policy.proofs.Laws.StatementsRead.{pick-no, pick-wrong, pick-yes}
 
 -- ---- one statement
-
-abbrev pub statementsOf : Json → Reading Policy
-statementsOf t = then (oneOrMore statementOf t) (differing sameSid)
 
 pub single-left : {run run′ : List ℕ} (t : Json) → isList (kindOf t) ≡ false → Left run run′ (statementOf t)
     → Left run run′ (statementsOf t)
@@ -113,7 +109,7 @@ module _ {t : Json} {ts : Values} (l : t ≡ list ts) where
             (extends-front n low (g .extends));
       }
 
--- ---- no policy
+-- ---- only an object is a policy
 
 pub policy-not : (t : Json) → isObject (kindOf t) ≡ false → policyOf t ≡ wrong
 unfolding policyOf
@@ -124,110 +120,78 @@ policy-not (string w) e = refl
 policy-not (list ts) e = refl
 policy-not (object ms) e = never (sym e)
 
-abbrev versionOf : Json → Reading Json
+-- an object has room for its members behind the number of statements
+pub policy-holdable : {s : List ℕ} {v : ℕ} {run : List ℕ} (p : HoldablePolicy s v run)
+    → isObject (kindOf (p .what)) ≡ true → HoldableObject s v run 1
+unfolding cost
+policy-holdable {s} {v} {run} p h =
+    let a = is-object (p .what) h in
+    let c : cost (p .what) ≡ 2 + costm (a .inside) = ap cost (a .is) in
+    record {
+      what = a .inside;
+      stop = p .stop;
+      is = object-stands (p .is) h;
+      roomy = record { room = omega (arith, c, p .room); bounded = p .bounded };
+    }
+
+pub policy-alike :
+    (run run′ : List ℕ) (r : Held) (t : Json) (h : isObject (kindOf t) ≡ true)
+    → Holds held run run′ 0 (policyOf (object (is-object t h .inside))) r → Holds held run run′ 0 (policyOf t) r
+policy-alike run run′ r t h g =
+    subst (λ (u : Json). Holds held run run′ 0 (policyOf u) r) (sym (is-object t h .is)) g
+
+-- ---- no policy
+
+abbrev pub versionOf : Json → Reading Json
 versionOf t = only (isWord editionWord t) t
 
-module _ {t : Json} {ms : Members} (o : t ≡ object ms) where
-  version-wrong : required versionOf (slot versionWord ms) ≡ wrong → policyOf t ≡ wrong
+module _ (ms : Members) where
+  pub no-version : required versionOf (slot versionWord ms) ≡ wrong → policyOf (object ms) ≡ wrong
   unfolding policyOf policyIn
-  version-wrong e = ap policyOf o ∙ pick-wrong (known (wordsOf L.Policy) ms) (then-wrong _ e)
+  no-version e = pick-wrong (known (wordsOf L.Policy) ms) (then-wrong _ e)
 
-  statement-wrong : required (oneOrMore statementOf) (slot statementWord ms) ≡ wrong → policyOf t ≡ wrong
+  both-said : (x : Slot)
+      → then (required (oneOrMore statementOf) x) (differing sameSid) ≡ required statementsOf x
+  both-said none = refl
+  both-said many = refl
+  both-said (one t) = refl
+
+  pub no-statements : required statementsOf (slot statementWord ms) ≡ wrong → policyOf (object ms) ≡ wrong
   unfolding policyOf policyIn
-  statement-wrong e =
-      ap policyOf o ∙ pick-wrong (known (wordsOf L.Policy) ms)
-      (not-read (policyIn ms) (λ p h.
-      let v = then-inv (required versionOf (slot versionWord ms))
-      (λ v. then (required (oneOrMore statementOf) (slot statementWord ms)) (λ p. differing sameSid p)) h in
-      both-ways (then-wrong (λ p. differing sameSid p) e) (v .next)))
+  no-statements e =
+      pick-wrong (known (wordsOf L.Policy) ms) (by (required versionOf (slot versionWord ms)))
+    where
+      by : (x : Reading Json)
+          → then x (λ v. then (required (oneOrMore statementOf) (slot statementWord ms)) (λ p. differing sameSid p))
+          ≡ wrong
+      by wrong = refl
+      by (read v) = both-said (slot statementWord ms) ∙ e
 
-  unknown-none : known (wordsOf L.Policy) ms ≡ false → policyOf t ≡ wrong
+  unknown-none : known (wordsOf L.Policy) ms ≡ false → policyOf (object ms) ≡ wrong
   unfolding policyOf
-  unknown-none e = ap policyOf o ∙ pick-no (policyIn ms) e
+  unknown-none e = pick-no (policyIn ms) e
 
-  repeated-none : Repeated (wordsOf L.Policy) ms → policyOf t ≡ wrong
+  repeated-none : Repeated (wordsOf L.Policy) ms → policyOf (object ms) ≡ wrong
   repeated-none r = by (r .turn) (r .among) (r .many-times)
     where
-      by : (k : ℕ) → Turn (wordsOf L.Policy) k → slot (wordAt (wordsOf L.Policy) k) ms ≡ many → policyOf t ≡ wrong
+      by : (k : ℕ) → Turn (wordsOf L.Policy) k → slot (wordAt (wordsOf L.Policy) k) ms ≡ many
+          → policyOf (object ms) ≡ wrong
       by zero k e = absurd (omega (arith, k .from))
-      by (suc zero) k e = version-wrong (ap (required versionOf) e)
-      by (suc (suc zero)) k e = statement-wrong (ap (required (oneOrMore statementOf)) e)
+      by (suc zero) k e = no-version (ap (required versionOf) e)
+      by (suc (suc zero)) k e = no-statements (ap (required statementsOf) e)
       by (suc (suc (suc n))) k e = absurd (omega (arith, k .to))
 
-  pub policy-left : {s run places : List ℕ} → Slotted s (wordsOf L.Policy) ms places → (getD places 0 0 ≡ 0 → ⊥)
-      → Left run run (policyOf t)
-  policy-left w n = record { size = refl; said = ⊎-elim unknown-none repeated-none (w .not-right n) }
+  pub not-members : (known (wordsOf L.Policy) ms ≡ false) ⊎ Repeated (wordsOf L.Policy) ms
+      → policyOf (object ms) ≡ wrong
+  not-members f = ⊎-elim unknown-none repeated-none f
 
   -- ---- a policy
 
-  module _ {s places : List ℕ} (w : Slotted s (wordsOf L.Policy) ms places) (z : getD places 0 0 ≡ 0) where
-    version-placed : Placed s (getD places 1 0) (slot versionWord ms)
-    version-placed = right L.Policy w z .placed 1 (turn-of L.Policy 1 (omega arith) (omega arith))
-
-    statement-placed : Placed s (getD places 2 0) (slot statementWord ms)
-    statement-placed = right L.Policy w z .placed 2 (turn-of L.Policy 2 (omega arith) (omega arith))
-
-    pub version-missing : {run : List ℕ} → getD places 1 0 ≡ 0 → Left run run (policyOf t)
-    version-missing e =
-        record { size = refl; said = version-wrong (required-none versionOf (placed-absent version-placed e)) }
-
-    pub statement-missing : {run : List ℕ} → getD places 2 0 ≡ 0 → Left run run (policyOf t)
-    statement-missing e =
-        record {
-          size = refl;
-          said = statement-wrong (required-none (oneOrMore statementOf) (placed-absent statement-placed e));
-        }
-
-    module _ (nv : getD places 1 0 ≡ 0 → ⊥) (ns : getD places 2 0 ≡ 0 → ⊥) where
-      pub version-there : There s (getD places 1 0) (slot versionWord ms)
-      version-there = placed-there version-placed nv
-
-      pub statement-there : There s (getD places 2 0) (slot statementWord ms)
-      statement-there = placed-there statement-placed ns
-
-      pub version-standing : Standing s (getD places 1 0)
-      version-standing =
-          record { what = version-there .what; stop = version-there .stop; is = version-there .stands }
-
-      version-is : (b : Bool) → isWord editionWord (version-there .what) ≡ b
-          → required versionOf (slot versionWord ms) ≡ only b (version-there .what)
-      version-is b e =
-          ap (required versionOf) (version-there .is) ∙ ap (λ (c : Bool). only c (version-there .what)) e
-
-      pub version-left : {run : List ℕ} → isWord editionWord (version-there .what) ≡ false
-          → Left run run (policyOf t)
-      version-left e = record { size = refl; said = version-wrong (version-is false e) }
-
-      -- Version's cost pays for the number of statements
-      pub statements-holdable : {run : List ℕ} → cost t ≤ length run + 1 → length run ≤ 16384
-          → Holdable s (getD places 2 0) run 0 1
-      unfolding slotsCost cost
-      statements-holdable r b =
-          record {
-            what = statement-there .what;
-            stop = statement-there .stop;
-            is = statement-there .stands;
-            roomy = record {
-              room = omega (
-                arith,
-                r,
-                ap cost o,
-                layout-room L.Policy ms,
-                ap (slotCost versionWord) (version-there .is),
-                ap (slotCost statementWord) (statement-there .is),
-              );
-              bounded = b;
-            };
-          }
-
-      policy-is : isWord editionWord (version-there .what) ≡ true → policyOf t ≡ statementsOf (statement-there .what)
-      unfolding policyOf policyIn
-      policy-is e =
-          ap policyOf o ∙ pick-yes (policyIn ms) (right L.Policy w z .knows) ∙ then-read _ (version-is true e)
-          ∙ ap (λ (x : Slot). then (required (oneOrMore statementOf) x) (differing sameSid)) (statement-there .is)
-
-      pub policy-holds :
-          (run run′ : List ℕ) (r : Held) → isWord editionWord (version-there .what) ≡ true
-          → Holds held run run′ 0 (statementsOf (statement-there .what)) r → Holds held run run′ 0 (policyOf t) r
-      policy-holds run run′ r e h =
-          subst (λ (x : Reading Policy). Holds held run run′ 0 x r) (sym (policy-is e)) h
+  pub policy-is :
+      {u x : Json} → known (wordsOf L.Policy) ms ≡ true → slot versionWord ms ≡ one u → isWord editionWord u ≡ true
+      → slot statementWord ms ≡ one x → policyOf (object ms) ≡ statementsOf x
+  unfolding policyOf policyIn
+  policy-is {u} {x} k v e y =
+      pick-yes (policyIn ms) k
+      ∙ then-read _ (ap (required versionOf) v ∙ ap (λ (c : Bool). only c u) e)
+      ∙ ap (λ (z : Slot). then (required (oneOrMore statementOf) z) (differing sameSid)) y

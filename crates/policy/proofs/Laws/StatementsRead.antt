@@ -43,13 +43,14 @@ pick-yes x e = ap (λ c. pick c x wrong) e
 
 -- ---- members of a layout
 
-pub record Right (s : List ℕ) (l : Layout) (ms : Members) (places : List ℕ) : Type 0 where
+pub record Right (s : List ℕ) (l : Layout) (ms : Members) (e : ℕ) (places : List ℕ) : Type 0 where
+  pub end : getD places 0 0 ≡ e
   pub knows : known (wordsOf l) ms ≡ true
   pub placed : (k : ℕ) → Turn (wordsOf l) k → Placed s (getD places k 0) (slot (wordAt (wordsOf l) k) ms)
 
-pub right : {s : List ℕ} (l : Layout) {ms : Members} {places : List ℕ} → Slotted s (wordsOf l) ms places
-    → getD places 0 0 ≡ 0 → Right s l ms places
-right l w e = let r = w .right e in record { knows = r .0; placed = r .1 }
+pub right : {s : List ℕ} (l : Layout) {ms : Members} {e : ℕ} {places : List ℕ} → Slotted s (wordsOf l) ms e places
+    → (getD places 0 0 ≡ 0 → ⊥) → Right s l ms e places
+right l w n = let r = w .right n in record { end = r .0; knows = r .1 .0; placed = r .1 .1 }
 
 pub turn-of : (l : Layout) (k : ℕ) → 0 < k → k ≤ length (wordsOf l) → Turn (wordsOf l) k
 turn-of l k a b = record { from = a; to = b }

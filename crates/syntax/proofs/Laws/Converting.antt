@@ -11,9 +11,9 @@ use Rattle.chars.proofs.Laws.Putting.{lay-length, lay-snoc}
 use Rattle.syntax.specs.declared.symbols.Step.{Step}
 use Rattle.syntax.specs.declared.symbols.Step.the-variants as S
 use Rattle.syntax.specs.declared.symbols.Converted.the-variants as C
-use Rattle.syntax.specs.Forms.{Reading, wrong, read, wildcard, ahead, symbolsBehind, symbolsOf}
-use Rattle.syntax.specs.Told.{converted, isRead, Says}
-use Rattle.syntax.proofs.Laws.Symbols.{says-on, says-text, says-wrong}
+use Rattle.syntax.specs.Forms.{Reading, wrong, read, wildcard, symbol, ahead, symbolsBehind, symbolsOf}
+use Rattle.syntax.specs.Told.{converted, isRead, NoDollar, Says}
+use Rattle.syntax.proofs.Laws.Symbols.{symbols-plain, says-on, says-text, says-wrong}
 
 -- ---- wildcards
 
@@ -158,3 +158,43 @@ module _ {w : Bool} {before after : List ℕ} {i n : ℕ} (p : Sofar w before af
       let end : converted (symbolsOf w before) before ≡ (C.Count (length (p .said)), lay (p .said) before) =
       ap (λ (t : Reading (List ℕ)). converted t before) all in
       cc (end, p .count, p .laid)
+
+-- ---- no escapes
+
+plain-read : (w : Bool) (cs : List ℕ) → NoDollar cs → symbolsOf w cs ≡ read (map (symbol w) cs)
+unfolding symbolsBehind ahead
+plain-read w [] n = refl
+plain-read w (c ∷ cs) n =
+    symbols-plain w c cs (n 0 (omega arith)) ∙ ap (ahead (symbol w c)) (plain-read w cs (λ k h. n (suc k) (omega arith)))
+
+lay-all : (xs out : List ℕ) → length xs ≡ length out → lay xs out ≡ xs
+unfolding lay
+lay-all [] [] h = refl
+lay-all [] (o ∷ out) h = absurd (omega (arith, h))
+lay-all (x ∷ xs) [] h = absurd (omega (arith, h))
+lay-all (x ∷ xs) (o ∷ out) h = ap (λ (l : List ℕ). x ∷ l) (lay-all xs out (omega (arith, h)))
+
+length-mapped : (f : ℕ → ℕ) (cs : List ℕ) → length (map f cs) ≡ length cs
+length-mapped f [] = refl
+length-mapped f (c ∷ cs) = ap suc (length-mapped f cs)
+
+map-same : (cs : List ℕ) → map (symbol false) cs ≡ cs
+map-same [] = refl
+map-same (c ∷ cs) = ap (λ (l : List ℕ). c ∷ l) (map-same cs)
+
+module _ (cs : List ℕ) (n : NoDollar cs) where
+  plain-converted : (w : Bool) → (C.Count (length cs), map (symbol w) cs) ≡ converted (symbolsOf w cs) cs
+  plain-converted w =
+      let size = length-mapped (symbol w) cs in
+      let all : converted (symbolsOf w cs) cs ≡ (C.Count (length (map (symbol w) cs)), lay (map (symbol w) cs) cs) =
+      ap (λ (t : Reading (List ℕ)). converted t cs) (plain-read w cs n) in
+      cc (all, size, lay-all (map (symbol w) cs) cs size)
+
+  pub plain-wild : {w : Bool} {after : List ℕ} → w ≡ true → after ≡ map wildcard cs
+      → (C.Count (length after), after) ≡ converted (symbolsOf w cs) cs
+  plain-wild {w} {after} e h =
+      let size : length after ≡ length cs = ap length h ∙ length-mapped wildcard cs in
+      rw (e, size, h) (plain-converted true)
+
+  pub plain-still : {w : Bool} → w ≡ false → (C.Count (length cs), cs) ≡ converted (symbolsOf w cs) cs
+  plain-still {w} e = rw (e) (cc (plain-converted false, map-same cs))

@@ -38,7 +38,7 @@ abbrev known : List ℕ
 known = 36 ∷ 42 ∷ 63 ∷ []
 
 module _ (w : Bool) (c : ℕ) (t : List ℕ) where
-  symbols-plain : (c ≡ 36 → ⊥) → symbolsOf w (c ∷ t) ≡ ahead (symbol w c) (symbolsOf w t)
+  pub symbols-plain : (c ≡ 36 → ⊥) → symbolsOf w (c ∷ t) ≡ ahead (symbol w c) (symbolsOf w t)
   unfolding symbolsBehind
   symbols-plain n = rw (ne-eqb c 36 n)
 

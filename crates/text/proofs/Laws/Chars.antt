@@ -1,15 +1,19 @@
 -- The twin takes each character of a string, and all of a string with its closing quote.
 use mathlib.Core.Path.{_≡_, refl, ap, _∙_}
 use mathlib.Core.List.{List, [], _∷_, _++_, append-assoc}
-use Prim.Native.Nat.{ℕ, _+_, _≤_}
+use Prim.Native.Nat.{ℕ, suc, _+_, _≤_}
 use native.Mathlib.Omega.{arith}
-use lib.ListN.{length, length-append, replicate}
-use Rattle.chars.specs.Base.{In, oneOf}
+use lib.ListN.{length, length-append, replicate, drop}
+use lib.Seq.{drop-cons}
+use Rattle.chars.specs.Base.{In, At, oneOf}
 use Rattle.chars.specs.Utf8.{Sequence, Tail, ascii, c2-df, e0, e1-ec, ed, ee-ef, f0, f1-f3, f4}
 use Rattle.chars.specs.Strings.{Unit, Short, quote, reverse-solidus, solidus, backspace, form-feed, line-feed}
 use Rattle.chars.specs.Strings.{carriage-return, tab, Hex, digit, upper, lower, Char, unescaped, escaped, hexed}
 use Rattle.chars.specs.Strings.{Body, end, more}
-use Rattle.text.specs.Machine.{Item, Move, go, range, hex, text, escape, sequence, high, owing, move, run}
+use Rattle.text.specs.Json.{Spelt}
+use Rattle.text.specs.Machine.{Item, Move, go, range, hex, text, escape, sequence, high, owing, move, run, from}
+use Rattle.text.specs.Reading.{Done}
+use Rattle.text.proofs.Laws.Parts.{spelt-drop, spelt-length}
 use Rattle.text.proofs.Laws.Eating.{run-takes}
 use Rattle.text.proofs.Laws.Moves.Strings.{char-escape, char-high, char-plain, escape-hex, hex-digit, hex-lower}
 use Rattle.text.proofs.Laws.Moves.Strings.{hex-upper, high-e0, high-ed, high-f0, high-f4, high-four, high-three}
@@ -128,3 +132,23 @@ text-eat (more {bs} {w} c b) k r at =
     ∙ char-onward c k (w ++ (34 ∷ r)) at
     ∙ text-eat b k r (at + length bs)
     ∙ ap (run k r) (omega (arith, length-append bs w))
+
+-- a string's rest is done behind its closing quote
+pub rest-done : {s w : List ℕ} {us : List Unit} {a c : ℕ} → Spelt s w a c → Body w us → At s c 34
+    → Done s (text ∷ []) a (c + 1)
+unfolding from
+rest-done {s} {w} {us} {a} {c} p b o =
+    let l = spelt-length p in
+    let h = o .inside in
+    let there : a + length w + 1 ≡ c + 1 = omega arith in
+    let past : suc c ≡ c + 1 = omega arith in
+    let quote : drop c s ≡ 34 ∷ drop (suc c) s = drop-cons s c 0 h ∙ rw (o .is) in
+    let all : drop a s ≡ w ++ (34 ∷ drop (suc c) s) = spelt-drop p ∙ ap (λ (x : List ℕ). w ++ x) quote in
+    record {
+      low = omega (arith, p .order);
+      high = omega arith;
+      goes = λ k. ap (λ (x : List ℕ). run (text ∷ k) x a) all
+          ∙ text-eat b k (drop (suc c) s) a
+          ∙ ap (run k (drop (suc c) s)) there
+          ∙ ap (λ (n : ℕ). run k (drop n s) (c + 1)) past;
+    }

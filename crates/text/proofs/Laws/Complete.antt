@@ -1,10 +1,9 @@
 -- What the grammar reads the twin passes, by induction on the reading: what follows a value stops every number.
-use mathlib.Core.Path.{_≡_, refl, sym, ap, _∙_}
+use mathlib.Core.Path.{_≡_, refl, sym, ap, _∙_, subst}
 use mathlib.Core.List.{List, [], _∷_, _++_, map}
 use Prim.Native.Nat.{ℕ, zero, suc, _+_, _≤_}
 use native.Mathlib.Omega.{arith}
 use lib.ListN.{length, getD, drop}
-use lib.Seq.{drop-cons}
 use Rattle.chars.specs.Base.{At, oneOf}
 use Rattle.text.specs.Json.{depth, depths, depthm, Space, zero, Spelt, Quoted, Piece, a-value, elements, rest}
 use Rattle.text.specs.Json.{members, more, Reads, a-null, a-true, a-false, a-number, a-string, empty-list}
@@ -12,7 +11,7 @@ use Rattle.text.specs.Json.{some-list, element, close-list, comma-list, 
 use Rattle.text.specs.Json.{close-object, comma-object}
 use Rattle.text.specs.Contents.{Ends}
 use Rattle.text.specs.Verdicts.{Text}
-use Rattle.text.specs.Machine.{Item, Move, pass, go, ws, byte, text, value, first, next, inner, move, from, run}
+use Rattle.text.specs.Machine.{Item, Move, pass, go, ws, byte, text, value, first, next, inner, move, run}
 use Rattle.text.specs.Machine.{feed, ends, verdictAt}
 use Rattle.text.specs.Machine as M
 use Rattle.text.specs.Reading.{Done}
@@ -21,10 +20,9 @@ use Rattle.text.specs.declared.scan.Shape.{Shape}
 use Rattle.text.specs.declared.scan.Shape.the-variants.{List as a-list, Object as an-object}
 use Rattle.text.proofs.Laws.Reading.{takes-at, seq, frame, alike, from-empty}
 use Rattle.text.proofs.Laws.Values.{next-goes}
-use Rattle.text.proofs.Laws.Parts.{spelt-drop, spelt-length}
 use Rattle.text.proofs.Laws.Eating.{eats-done, word-eats, run-takes}
 use Rattle.text.proofs.Laws.Numbers.{number-eat}
-use Rattle.text.proofs.Laws.Chars.{text-eat}
+use Rattle.text.proofs.Laws.Chars.{rest-done}
 use Rattle.text.proofs.Laws.Moves.Bytes.{byte-is}
 use Rattle.text.proofs.Laws.Moves.Values.{first-close, next-close, value-false, value-null, value-opens}
 use Rattle.text.proofs.Laws.Moves.Values.{value-text, value-true}
@@ -58,24 +56,8 @@ Stopped s (more ms) e = Unit {0}
 
 -- a string's rest behind its opening quote
 pub body-done : {s w : List ℕ} {i e : ℕ} → Quoted s w i e → Done s (text ∷ []) (i + 1) e
-unfolding from
 body-done {s} {w} {i} {e} p =
-    let l = spelt-length (p .spelt) in
-    let q = p .close in
-    let h = p .closes .inside in
-    let z = p .past in
-    let there : i + 1 + length w + 1 ≡ e = omega arith in
-    let past : suc q ≡ e = omega arith in
-    let quote : drop q s ≡ 34 ∷ drop (suc q) s = drop-cons s q 0 h ∙ rw (p .closes .is) in
-    let all : drop (i + 1) s ≡ w ++ (34 ∷ drop (suc q) s) = spelt-drop (p .spelt) ∙ ap (λ (x : List ℕ). w ++ x) quote in
-    record {
-      low = omega (arith, p .spelt .order);
-      high = omega arith;
-      goes = λ k. ap (λ (x : List ℕ). run (text ∷ k) x (i + 1)) all
-          ∙ text-eat (p .body) k (drop (suc q) s) (i + 1)
-          ∙ ap (run k (drop (suc q) s)) there
-          ∙ ap (λ (n : ℕ). run k (drop n s) e) past;
-    }
+    subst (λ (n : ℕ). Done s (text ∷ []) (i + 1) n) (sym (p .past)) (rest-done (p .spelt) (p .body) (p .closes))
 
 pub quoted-done : {s w : List ℕ} {i e : ℕ} → Quoted s w i e → Done s (byte 34 ∷ text ∷ []) i e
 quoted-done p = seq (takes-at (byte 34) (text ∷ []) (p .opens) [] (byte-is 34 34 refl)) (body-done p)

@@ -1,20 +1,21 @@
 -- What stands at a place, as the walkers find it: the twin tells every place, and a place has one piece.
-use mathlib.Core.Path.{_≡_, refl, ap, _∙_}
+use mathlib.Core.Path.{_≡_, refl, sym, ap, _∙_}
 use mathlib.Core.List.{List, [], _∷_, map}
 use Prim.Native.Nat.{ℕ, _+_, _-_, _≤_, _<_}
 use native.Mathlib.Omega.{arith}
-use lib.ListN.{length, drop}
+use lib.ListN.{length, getD, drop}
 use Rattle.chars.specs.Base.{part}
 use Rattle.text.specs.Json.{Json, Values, Members, null, string, levels, Quoted, a-value, Reads, a-string}
 use Rattle.text.specs.Json.{JsonText}
 use Rattle.text.specs.Machine.{Item, ws, byte, text, value, verdict}
-use Rattle.text.specs.Reading.{Done, Falls}
+use Rattle.text.specs.Reading.{Leads, Done, Falls}
 use Rattle.text.specs.Verdicts.{Text}
 use Rattle.text.specs.Contents.{Stands, Rest, Others, Raw, Rooted}
 use Rattle.text.specs.declared.verdict.Verdict.{Verdict}
 use Rattle.text.specs.declared.verdict.Verdict.the-variants.{Whole, Breaks, Deep}
-use Rattle.text.proofs.Laws.Reading.{fall-frame}
-use Rattle.text.proofs.Laws.Places.{done-alive, alive-fall, done-unique, not-whole}
+use Rattle.text.proofs.Laws.Reading.{takes, fall-frame}
+use Rattle.text.proofs.Laws.Moves.Values.{value-text}
+use Rattle.text.proofs.Laws.Places.{done-alive, alive-fall, done-unique, not-whole, value-grows}
 use Rattle.text.proofs.Laws.Ends.{ends-after}
 use Rattle.text.proofs.Laws.Spaces.{space-is}
 use Rattle.text.proofs.Laws.Complete.{body-done, reads-done}
@@ -45,6 +46,15 @@ stands-unique {u = u} {f = f} p q = once (p .reads) (p .ends) u f (q .reads) (q 
 
 reads-quoted : {s w : List ℕ} {v e : ℕ} → Reads s (a-value (string w)) v e → Quoted s w v e
 reads-quoted (a-string q) = q
+
+-- a value that a quote opens
+pub opened-done : {s : List ℕ} {t : Json} {v e : ℕ} → getD s v 0 ≡ 34 → Stands s t v e → Done s (text ∷ []) (v + 1) e
+opened-done {s} {t} {v} z p =
+    let d = stands-done p in
+    let h = value-grows d in
+    let q : Leads s (value levels ∷ []) v (text ∷ []) (v + 1) =
+    takes (value levels) [] (text ∷ []) (stands-inside p) (value-text (getD s v 0) levels z) in
+    record { low = omega arith; high = d .high; goes = λ k. sym (q .goes k) ∙ d .goes k }
 
 module _ {s w : List ℕ} {v e : ℕ} (p : Stands s (string w) v e) where
   pub text-done : Done s (text ∷ []) (v + 1) e

@@ -73,3 +73,17 @@ spelt-first {s} {w} {i} {b} {e} p =
   where
     head-is : {x y : ℕ} {xs ys : List ℕ} → x ∷ xs ≡ y ∷ ys → x ≡ y
     head-is e = cc
+
+-- and the bytes behind it
+pub spelt-rest : {s w : List ℕ} {i b e : ℕ} → Spelt s (b ∷ w) i e → Spelt s w (i + 1) e
+spelt-rest {s} {w} {i} {b} {e} p =
+    let l = spelt-length p in
+    let o : i + 1 ≤ e = omega arith in
+    let h : i < length s = omega (arith, p .inside, l) in
+    let y = ap (λ (x : List ℕ). x ++ part s (i + 1) e) (sym (part-one s i h))
+    ∙ part-append s i (i + 1) e (omega arith) o
+    ∙ p .is in
+    record { order = o; inside = p .inside; is = tail-is y }
+  where
+    tail-is : {x y : ℕ} {xs ys : List ℕ} → x ∷ xs ≡ y ∷ ys → xs ≡ ys
+    tail-is e = cc

@@ -38,6 +38,17 @@ plain-at {s} {at} p e = subst (λ (n : ℕ). Leads s (text ∷ []) at (text ∷ 
 
 -- ---- white space
 
+pub blank-more :
+    {s : List ℕ} {at i : ℕ} → Leads s (ws ∷ []) at (ws ∷ []) i
+    → i < length s → move ws (getD s i 0) ≡ go (ws ∷ []) → Leads s (ws ∷ []) at (ws ∷ []) (i + 1)
+blank-more p h e = seq p (takes ws [] (ws ∷ []) h e)
+
+pub blank-at : {s : List ℕ} {at i j : ℕ} → Leads s (ws ∷ []) at (ws ∷ []) i → i ≡ j → Leads s (ws ∷ []) at (ws ∷ []) j
+blank-at {s} {at} p e = subst (λ (n : ℕ). Leads s (ws ∷ []) at (ws ∷ []) n) e p
+
+pub only-space : (b : ℕ) → eqb b 32 ≡ true → move ws b ≡ go (ws ∷ [])
+only-space b e = ws-key b (inr (eqb-true b 32 e))
+
 one : (t u : Bool) → (t || u) ≡ true → (t ≡ true) ⊎ (u ≡ true)
 one true u h = inl refl
 one false u h = inr h
@@ -56,7 +67,7 @@ blank-is b h =
     (λ q. ⊎-elim (tab b) (line-feed b) (one _ _ q))
     (λ q. ws-key b (inl (eqb-true b 13 q)))
     (one _ _ p))
-    (λ p. ws-key b (inr (eqb-true b 32 p)))
+    (only-space b)
     (one _ _ h)
 
 pub blank-not : (b : ℕ) → (eqb b 9 || eqb b 10 || eqb b 13 || eqb b 32) ≡ false → move ws b ≡ pass

@@ -1,22 +1,22 @@
 -- A walk that counts brackets and passes strings whole leaves a list or an object where it ends, by induction on the
 -- reading: outside strings, brackets stand in pairs.
 use mathlib.Core.Path.{_≡_, refl, sym, ap, _∙_, subst}
-use mathlib.Core.List.{List, [], _∷_, _++_}
-use Prim.Native.Nat.{ℕ, suc, _+_, _≤_, _<_}
+use mathlib.Core.List.{List, [], _∷_}
+use Prim.Native.Nat.{ℕ, suc, _+_}
 use native.Mathlib.Omega.{arith}
-use lib.ListN.{length, getD}
-use Rattle.chars.specs.Base.{At, part}
+use lib.ListN.{getD}
+use Rattle.chars.specs.Base.{At}
 use Rattle.text.specs.Json.{Json, Space, no-space, white, Spelt, Quoted, Piece, a-value, elements, rest, members}
 use Rattle.text.specs.Json.{more, Reads, a-null, a-true, a-false, a-number, a-string, empty-list, some-list}
 use Rattle.text.specs.Json.{element, close-list, comma-list, empty-object, some-object, member, close-object}
 use Rattle.text.specs.Json.{comma-object}
 use Rattle.text.specs.Contents.{Stands}
-use Rattle.text.specs.Skipping.{level, Steps, Closes, over, on}
-use Rattle.text.proofs.Laws.Parts.{part-append, part-one, spelt-length}
+use Rattle.text.specs.Skipping.{level, Steps, Closes, over, on, Plain}
+use Rattle.text.proofs.Laws.Parts.{spelt-length, spelt-first, spelt-rest}
 use Rattle.text.proofs.Laws.Complete.{body-done}
 use Rattle.text.proofs.Laws.Once.Inner.{Listed, listed, none, some, Objected, objected}
 use Rattle.text.proofs.Laws.Contents.{stands-inside}
-use Rattle.text.proofs.Laws.Skipping.Bytes.{Plain, Plains, empty, then, low, white-plain, number-plain}
+use Rattle.text.proofs.Laws.Skipping.Bytes.{Plains, empty, then, low, white-plain, number-plain}
 use Rattle.text.proofs.Laws.Skipping.Bytes.{null-plain, true-plain, false-plain}
 pub mod Bytes
 pub mod Walking
@@ -28,12 +28,6 @@ under (elements ts) n = n
 under (rest ts) n = n
 under (members ms) n = n
 under (more ms) n = n
-
-head-is : {x y : ℕ} {xs ys : List ℕ} → x ∷ xs ≡ y ∷ ys → x ≡ y
-head-is e = cc
-
-tail-is : {x y : ℕ} {xs ys : List ℕ} → x ∷ xs ≡ y ∷ ys → xs ≡ ys
-tail-is e = cc
 
 -- ---- one step
 
@@ -88,15 +82,7 @@ module _ {s : List ℕ} where
   word : {n i e k : ℕ} (w : List ℕ) → Plains w → Spelt s w i e → Closes s (suc n) e k → Closes s (suc n) i k
   word {n} {i} {e} {k} [] empty p c =
       let z = spelt-length p in subst (λ (l : ℕ). Closes s (suc n) l k) (omega arith) c
-  word {n} {i} {e} {k} (b ∷ w) (then h g) p c =
-      let z = spelt-length p in
-      let o : i + 1 ≤ e = omega arith in
-      let l : i < length s = omega (arith, p .inside) in
-      let y = ap (λ (x : List ℕ). x ++ part s (i + 1) e) (sym (part-one s i l))
-      ∙ part-append s i (i + 1) e (omega arith) o
-      ∙ p .is in
-      plain (record { inside = l; is = head-is y }) h
-      (word w g (record { order = o; inside = p .inside; is = tail-is y }) c)
+  word (b ∷ w) (then h g) p c = plain (spelt-first p) h (word w g (spelt-rest p) c)
 
   -- ---- pieces
 

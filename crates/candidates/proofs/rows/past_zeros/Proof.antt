@@ -1,4 +1,4 @@
--- Every eight passed were zeros.
+-- Every block passed was of zeros.
 use mathlib.Core.Path.{_≡_, refl, _∙_}
 use Prim.Native.Nat.{_≤_, _-_}
 use native.Mathlib.Omega.{arith}
@@ -10,7 +10,7 @@ use Rattle.candidates.proofs.rows.past_zeros.Statement.{statement}
 use Rattle.candidates.proofs.rows.past_zeros.Tie as tie
 use Rattle.candidates.proofs.rows.past_zeros.Reads as reads
 use Rattle.candidates.proofs.rows.past_zeros.Lts as lts
-use Rattle.candidates.proofs.rows.eight_zeros.Reads as eight-zeros-reads
+use Rattle.candidates.proofs.rows.block_zeros.Reads as block-zeros-reads
 
 abbrev Inv-loop : tie.InvT-loop
 Inv-loop row i₀ i =
@@ -28,8 +28,8 @@ sub-loop : tie.Need-sub-loop Inv-loop μ-loop
 sub-loop c =
     omega (arith, c .loop .inv .0)
 
-eight-zeros-requires : tie.Need-eight-zeros-requires Inv-loop μ-loop
-eight-zeros-requires c κs =
+block-zeros-requires : tie.Need-block-zeros-requires Inv-loop μ-loop
+block-zeros-requires c κs =
     let at-loop = c .before in
     omega (arith, at-loop .loop .inv .0)
 
@@ -46,9 +46,9 @@ loop-less c = search needs
 
 loop-again : tie.Need-loop-again Inv-loop μ-loop
 loop-again c =
-    let at-eight-zeros = c .before in
-    let at-loop = at-eight-zeros .before .before in
-    (omega (arith, at-loop .loop .inv .0), at-eight-zeros .eight-zeros .ensures (not-false (at-eight-zeros .eight-zeros .result) (c .if1 .left)) ∙ at-loop .loop .inv .1)
+    let at-block-zeros = c .before in
+    let at-loop = at-block-zeros .before .before in
+    (omega (arith, at-loop .loop .inv .0), at-block-zeros .block-zeros .ensures (not-false (at-block-zeros .block-zeros .result) (c .if1 .left)) ∙ at-loop .loop .inv .1)
 
 returns-2 : tie.Need-returns-2 Inv-loop μ-loop
 returns-2 c =
@@ -63,7 +63,7 @@ past-zeros-spec =
     μ-loop
     loop-holds
     sub-loop
-    eight-zeros-requires
+    block-zeros-requires
     returns
     add-i
     loop-less

@@ -1,23 +1,24 @@
 -- What the loops of `decode` and `same` keep: the text of all bytes is what was read, and the text from the place on.
 use mathlib.Core.Path.{_≡_, refl, sym, ap, _∙_, subst}
-use mathlib.Core.Bool.{Bool, true, false}
+use mathlib.Core.Bool.{Bool, true, false, not, _&&_}
 use mathlib.Core.List.{List, [], _∷_, _++_, append-assoc, append-nil}
-use Prim.Native.Nat.{ℕ, suc, _+_, _-_, _≤_, _<_}
+use Prim.Native.Nat.{ℕ, zero, suc, _+_, _-_, _≤_, _<_}
 use native.Mathlib.Numerals.{add-one}
 use native.Mathlib.Omega.{arith}
 use native.Mathlib.Decide.{decLt}
-use lib.Dec.{eqb}
-use lib.ListN.{length, getD, take, drop, set, length-append, length-drop, drop-of-length-le}
+use lib.Dec.{eqb, ltb}
+use lib.ListN.{length, getD, take, drop, set, length-append, length-drop, length-set, drop-of-length-le}
 use lib.Seq.{take-all, drop-cons, drop-drop}
-use borrow.Author.Tests.{le-leb, lt-leb, eq-eqb, ne-eqb}
+use borrow.Author.Tests.{le-leb, lt-leb, eq-eqb, ne-eqb, ltb-true, eqb-false, not-true}
 use Rattle.chars.specs.Base.{pick}
 use Rattle.chars.specs.Putting.{lay}
 use Rattle.chars.specs.Decoding.{Text, whole, lone, ahead, unitsBehind, meaning, textOf, decodedOf, equal}
 use Rattle.chars.specs.Decoding.{sameText, Decodes}
-use Rattle.chars.specs.Steps.{stepped, Past}
+use Rattle.chars.specs.Steps.{stepped, Past, Plain, SameEight, joined, Sofar, Moves, Match}
 use Rattle.chars.specs.declared.strings.Step.{Step}
 use Rattle.chars.specs.declared.strings.Step.the-variants as S
 use Rattle.chars.specs.declared.strings.Decoded.the-variants.{Count, Lone, Short}
+use Rattle.chars.proofs.Laws.Tests.{each-true}
 use Rattle.chars.proofs.Laws.Putting.{lay-length, lay-snoc}
 use Rattle.chars.proofs.Laws.Strings.Reading.{read-sequence, sequence-one, text-plain}
 
@@ -56,20 +57,13 @@ ascii-step w i h k d =
     subst (λ (l : List ℕ). textOf l ≡ stepped (S.Char b 0) l) (sym (rest-drop w i ∙ drop-cons w i 0 h))
     (text-plain (b ∷ v) (omega arith) (read-sequence (b ∷ v) d ∙ sequence-one (b ∷ v) b k))
 
-pub ascii-past : (w : List ℕ) (i : ℕ) → Past w i 0 (i + 1)
-ascii-past w i = record { on = omega arith; rest = sym (drop-drop 1 i w) }
+pub ascii-past : (w : List ℕ) (i : ℕ) → i < length w → Past w i 0 (i + 1)
+ascii-past w i h = record { on = omega arith; inside = omega arith; rest = sym (drop-drop 1 i w) }
 
 -- ---- decode
 
-abbrev joined : List ℕ → Text → Text
-joined cs t = record { chars = cs ++ t .chars; sound = t .sound }
-
-pub record Sofar (w before after : List ℕ) (i n : ℕ) : Type 0 where
-  pub chars : List ℕ
-  pub text : textOf w ≡ joined chars (textOf (drop i w))
-  pub count : length chars ≡ n
-  pub laid : after ≡ lay chars before
-  pub low : n ≤ i
+pub sofar-at : {w before after : List ℕ} {i n m : ℕ} → Sofar w before after i n → n ≡ m → Sofar w before after i m
+sofar-at {w} {before} {after} {i} p e = subst (λ (k : ℕ). Sofar w before after i k) e p
 
 pub sofar-start : (w before : List ℕ) → Sofar w before before 0 0
 unfolding lay
@@ -98,7 +92,11 @@ module _ {w before after : List ℕ} {i n : ℕ} (p : Sofar w before after i n) 
 
   pub sofar-ascii : {c : ℕ} {next : List ℕ} → i < length w → getD w i 0 < 128 → (getD w i 0 ≡ 92 → ⊥) → c ≡ getD w i 0
       → next ≡ set after n c → Sofar w before next (i + 1) (n + 1)
-  sofar-ascii {c} h k d e s = sofar-char (ascii-step w i h k d) (ap (λ (x : ℕ). S.Char x 0) (sym e)) (ascii-past w i) s
+  sofar-ascii {c} h k d e s = sofar-char (ascii-step w i h k d) (ap (λ (x : ℕ). S.Char x 0) (sym e)) (ascii-past w i h) s
+
+  sofar-plain : {c : ℕ} → i < length w → Plain (getD w i 0) → c ≡ getD w i 0
+      → Sofar w before (set after n c) (i + 1) (n + 1)
+  sofar-plain h b e = sofar-ascii h (b .ascii) (b .no-escape) e refl
 
   -- nothing but the end is left
   ended : (t : Text) → textOf (drop i w) ≡ t → t .chars ≡ [] → textOf w ≡ record { chars = p .chars; sound = t .sound }
@@ -141,11 +139,64 @@ module _ {w before after : List ℕ} {i n : ℕ} (p : Sofar w before after i n) 
           laid = laid-all all-read;
         }
 
--- ---- same
+-- ---- eight at once
 
-pub record Match (w v : List ℕ) (i j : ℕ) : Type 0 where
-  pub is : sameText (textOf w) v ≡ sameText (textOf (drop i w)) (drop j v)
-  pub high : j ≤ length v
+pub plain-byte : (b : ℕ) → (ltb b 128 && not (eqb b 92)) ≡ true → Plain b
+plain-byte b h =
+    let t = each-true (ltb b 128) (not (eqb b 92)) h in
+    record { ascii = ltb-true b 128 (t .0); no-escape = eqb-false b 92 (not-true (eqb b 92) (t .1)) }
+
+pub each-before : (P : ℕ → Type 0) {j : ℕ} → ((k : ℕ) → k < j → P k) → P j → (k : ℕ) → k < j + 1 → P k
+each-before P {j} f p k h = by (decLt k j)
+  where
+    by : Dec (k < j) → P k
+    by (yes g) = f k g
+    by (no g) = let e : j ≡ k = omega arith in subst P e p
+
+pub moves-none : {w run : List ℕ} {i n : ℕ} → i ≤ length w → Moves w run run i n i
+moves-none {w} {run} {i} {n} h =
+    let z : n ≡ n + (i - i) = omega arith in
+    record {
+      on = omega arith;
+      inside = h;
+      size = refl;
+      goes = λ before p. subst (λ (m : ℕ). Sofar w before run i m) z p;
+    }
+
+pub sofar-first : {w before after : List ℕ} {r : ℕ} → Moves w before after 0 0 r → Sofar w before after r r
+sofar-first m = sofar-at (m .goes _ (sofar-start _ _)) (omega arith)
+
+pub moves-at : {w run run′ : List ℕ} {i n r q : ℕ} → Moves w run run′ i n r → r ≡ q → Moves w run run′ i n q
+moves-at {w} {run} {run′} {i} {n} m e = subst (λ (j : ℕ). Moves w run run′ i n j) e m
+
+pub moves-byte : {w run run′ : List ℕ} {i n c : ℕ} (j : ℕ) → Moves w run run′ i n (i + j) → i + j < length w
+    → Plain (getD w (i + j) 0) → c ≡ getD w (i + j) 0 → Moves w run (set run′ (n + j) c) i n (i + j + 1)
+moves-byte {w} {run} {run′} {i} {n} {c} j m h b e =
+    let z : n + (i + j - i) ≡ n + j = omega arith in
+    let y : n + j + 1 ≡ n + (i + j + 1 - i) = omega arith in
+    record {
+      on = omega arith;
+      inside = omega arith;
+      size = length-set run′ (n + j) c ∙ m .size;
+      goes = λ before p.
+          let q = subst (λ (k : ℕ). Sofar w before run′ (i + j) k) z (m .goes before p) in
+          subst (λ (k : ℕ). Sofar w before (set run′ (n + j) c) (i + j + 1) k) y (sofar-plain q h b e);
+    }
+
+pub moves-then : {w a b c : List ℕ} {i n k r q : ℕ} → Moves w a b i n r → k ≡ n + (r - i) → Moves w b c r k q
+    → Moves w a c i n q
+moves-then {w} {a} {b} {c} {i} {n} {k} {r} {q} m e o =
+    let y : k + (q - r) ≡ n + (q - i) = omega (arith, m .on, o .on) in
+    record {
+      on = omega (arith, m .on, o .on);
+      inside = o .inside;
+      size = o .size ∙ m .size;
+      goes = λ before p.
+          let s = subst (λ (l : ℕ). Sofar w before b r l) (sym e) (m .goes before p) in
+          subst (λ (l : ℕ). Sofar w before c q l) y (o .goes before s);
+    }
+
+-- ---- same
 
 pub match-start : (w v : List ℕ) → Match w v 0 0
 match-start w v = record { is = refl; high = omega arith }
@@ -184,6 +235,9 @@ module _ {w v : List ℕ} {i j : ℕ} (p : Match w v i j) where
       unfolding sameText equal behind
       match-next d q = record { is = onward _ next ∙ rw (eq-eqb c (getD v j 0) d, ← q .rest); high = omega arith }
 
+  pub match-plain : i < length w → j < length v → Plain (getD w i 0) → getD w i 0 ≡ getD v j 0 → Match w v (i + 1) (j + 1)
+  match-plain h k b e = match-next {m = 0} (ascii-step w i h (b .ascii) (b .no-escape)) refl k e (ascii-past w i h)
+
   pub match-end : length w ≤ i → eqb j (length v) ≡ sameText (textOf w) v
   unfolding sameText equal
   match-end h = sym (p .is ∙ ap (λ (t : Text). sameText t (drop j v)) (text-end w i h) ∙ by (decLt j (length v)))
@@ -193,3 +247,16 @@ module _ {w v : List ℕ} {i j : ℕ} (p : Match w v i j) where
       by (no g) =
           let all : length v ≤ j = omega arith in
           ap (equal []) (drop-of-length-le v all) ∙ sym (eq-eqb j (length v) (omega (arith, p .high)))
+
+match-run : {w v : List ℕ} (i n : ℕ) → Match w v i i → i + n ≤ length w → i + n ≤ length v
+    → ((k : ℕ) → k < n → (Plain (getD w (i + k) 0)) × (getD w (i + k) 0 ≡ getD v (i + k) 0)) → Match w v (i + n) (i + n)
+match-run {w} {v} i zero m h g f = let z : i ≡ i + 0 = omega arith in subst (λ (k : ℕ). Match w v k k) z m
+match-run {w} {v} i (suc n) m h g f =
+    let z : i + n + 1 ≡ i + suc n = omega arith in
+    let last = f n (omega arith) in
+    let before = match-run i n m (omega arith) (omega arith) (λ k l. f k (omega arith)) in
+    subst (λ (k : ℕ). Match w v k k) z (match-plain before (omega arith) (omega arith) (last .0) (last .1))
+
+pub match-eight : {w v : List ℕ} {i : ℕ} → Match w v i i → i + 8 ≤ length w → i + 8 ≤ length v → SameEight w v i
+    → Match w v (i + 8) (i + 8)
+match-eight {w} {v} {i} m h g f = match-run i 8 m h g f

@@ -52,9 +52,13 @@ module _ (w : List ℕ) (h : ℕ) {b : ℕ} (sixth : b ≡ getD w 6 0) where
 pub past-end : (w : List ℕ) (i n : ℕ) → i < length w → length w - i ≤ n → Past w i n (length w)
 past-end w i n h k =
     let short : length (drop i w) ≤ suc n = omega (arith, length-drop i w) in
-    record { on = h; rest = drop-length w ∙ sym (drop-of-length-le (drop i w) short) }
+    record { on = h; inside = omega arith; rest = drop-length w ∙ sym (drop-of-length-le (drop i w) short) }
 
-pub past-more : (w : List ℕ) (i n : ℕ) → Past w i n (i + 1 + n)
-past-more w i n =
+pub past-more : (w : List ℕ) (i n : ℕ) → n < length w - i → Past w i n (i + 1 + n)
+past-more w i n h =
     let e : i + 1 + n ≡ i + suc n = omega arith in
-    record { on = omega arith; rest = ap (λ (k : ℕ). drop k w) e ∙ sym (drop-drop (suc n) i w) }
+    record {
+      on = omega arith;
+      inside = omega arith;
+      rest = ap (λ (k : ℕ). drop k w) e ∙ sym (drop-drop (suc n) i w);
+    }

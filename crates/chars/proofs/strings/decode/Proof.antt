@@ -1,21 +1,28 @@
 -- Each turn lays one character more over the run, and goes on behind its bytes.
-use Prim.Native.Nat.{_-_}
+use mathlib.Core.List.{List}
+use Prim.Native.Nat.{ℕ, _-_, _+_}
 use native.Mathlib.Omega.{arith}
 use lib.ListN.{length}
-use Rattle.chars.proofs.Laws.Strings.Runs.{rest-some, Sofar, sofar-start, sofar-length, sofar-ascii, sofar-char}
-use Rattle.chars.proofs.Laws.Strings.Runs.{sofar-lone, sofar-count, sofar-short}
+use Rattle.chars.specs.Steps.{Sofar}
+use Rattle.chars.proofs.Laws.Strings.Runs.{rest-some, sofar-first, sofar-length, sofar-ascii, sofar-char}
+use Rattle.chars.proofs.Laws.Strings.Runs.{sofar-lone, sofar-count, sofar-short, sofar-at}
 use borrow.Author.Needs.{needs}
 use Rattle.chars.proofs.strings.decode.Statement.{statement}
 use Rattle.chars.proofs.strings.decode.Tie as tie
 
 abbrev Inv-loop : tie.InvT-loop
-Inv-loop s out₀ i₀ n₀ out i n = Sofar s out₀ out i n
+Inv-loop s out₀ i₀ n₀ out i n =
+    (before : List ℕ) → Sofar s before out₀ i₀ n₀ → Sofar s before out i n
 
 abbrev μ-loop : tie.MeasureT-loop
-μ-loop s out₀ i₀ n₀ out i n = length s - i
+μ-loop s out₀ i₀ n₀ out i n =
+    length s - i
+
+put-eights-requires : tie.Need-put-eights-requires Inv-loop μ-loop
+put-eights-requires c κs = omega arith
 
 loop-holds : tie.Need-loop-holds Inv-loop μ-loop
-loop-holds c = sofar-start _ _
+loop-holds c = λ before p. p
 
 shared-slice-read-b : tie.Need-shared-slice-read-b Inv-loop μ-loop
 shared-slice-read-b c = search needs
@@ -27,24 +34,16 @@ put-requires : tie.Need-put-requires Inv-loop μ-loop
 put-requires c κs = search needs
 
 add-n : tie.Need-add-n Inv-loop μ-loop
-add-n c =
-    let turn = c .before .before .before .before .before .before .before .before in
-    omega (arith, turn .before .loop .inv .low, turn .loop-test .taken)
+add-n c = omega (arith, c .before .before .before .before .before .before .before .before .before .loop .inv _ (sofar-first (c .before .before .before .before .before .before .before .before .before .before .before .before .put-eights .ensures)) .low, c .before .before .before .before .before .before .before .before .loop-test .taken)
 
 add-i : tie.Need-add-i Inv-loop μ-loop
 add-i c = search needs
 
 loop-less : tie.Need-loop-less Inv-loop μ-loop
-loop-less c =
-    let turn = c .before .before .before .before .before .before .before .before in
-    omega (arith, turn .loop-test .taken)
+loop-less c = omega (arith, c .before .before .before .before .before .before .before .before .loop-test .taken)
 
 loop-again : tie.Need-loop-again Inv-loop μ-loop
-loop-again c =
-    let found = c .before .before .before .before .before in
-    let turn = found .before .before .before in
-    sofar-ascii (turn .before .loop .inv) (turn .loop-test .taken) (found .before .if1 .taken) (found .if2 .taken)
-    (c .before .before .before .wide .ensures) (c .before .before .put .ensures)
+loop-again c = λ before p. sofar-ascii (c .before .before .before .before .before .before .before .before .before .loop .inv before p) (c .before .before .before .before .before .before .before .before .loop-test .taken) (c .before .before .before .before .before .before .if1 .taken) (c .before .before .before .before .before .if2 .taken) (c .before .before .before .wide .ensures) (c .before .before .put .ensures)
 
 sub-first : tie.Need-sub-first Inv-loop μ-loop
 sub-first c = search needs
@@ -56,9 +55,7 @@ part-first-end : tie.Need-part-first-end Inv-loop μ-loop
 part-first-end c = search needs
 
 first-requires : tie.Need-first-requires Inv-loop μ-loop
-first-requires c κs =
-    let turn = c .before .before .before in
-    rest-some (turn .before .before .before .before .args .s .now) _ (turn .loop-test .taken)
+first-requires c κs = rest-some (c .before .before .before .before .before .before .before .before .before .before .before .args .s .now) _ (c .before .before .before .loop-test .taken)
 
 enum-known-x : tie.Need-enum-known-x Inv-loop μ-loop
 enum-known-x c = search needs
@@ -66,51 +63,61 @@ enum-known-x c = search needs
 put-requires-2 : tie.Need-put-requires-2 Inv-loop μ-loop
 put-requires-2 c κs = search needs
 
-add-n-2 : tie.Need-add-n-2 Inv-loop μ-loop
-add-n-2 c =
-    let turn = c .before .before .before .before .before .before .before .before .before .before .before in
-    omega (arith, turn .before .loop .inv .low, turn .loop-test .taken)
-
 past-requires : tie.Need-past-requires Inv-loop μ-loop
-past-requires c κs =
-    let turn = c .before .before .before .before .before .before .before .before .before .before .before in
-    turn .loop-test .taken
+past-requires c κs = c .before .before .before .before .before .before .before .before .before .before .before .loop-test .taken
+
+add-put-eights : tie.Need-add-put-eights Inv-loop μ-loop
+add-put-eights c = omega (arith, c .before .before .before .before .before .before .before .before .before .before .before .before .before .before .loop .inv _ (sofar-first (c .before .before .before .before .before .before .before .before .before .before .before .before .before .before .before .before .before .put-eights .ensures)) .low, c .before .before .before .before .before .before .before .before .before .before .before .before .before .loop-test .taken)
+
+put-eights-requires-2 : tie.Need-put-eights-requires-2 Inv-loop μ-loop
+put-eights-requires-2 c κs = c .before .past .ensures .inside
+
+add-n-2 : tie.Need-add-n-2 Inv-loop μ-loop
+add-n-2 c = omega (arith, c .before .before .before .before .before .before .before .before .before .before .before .before .before .before .before .before .before .loop .inv _ (sofar-first (c .before .before .before .before .before .before .before .before .before .before .before .before .before .before .before .before .before .before .before .before .put-eights .ensures)) .low, c .before .before .before .before .before .before .before .before .before .before .before .before .before .before .before .before .loop-test .taken)
+
+sub-n : tie.Need-sub-n Inv-loop μ-loop
+sub-n c = omega (arith, c .before .before .put-eights2 .ensures .on)
+
+add-n-3 : tie.Need-add-n-3 Inv-loop μ-loop
+add-n-3 c =
+    omega (
+      arith,
+      c .before .before .before .before .before .before .before .before .before .before .before .before .before .before .before .before .before .loop .inv _ (sofar-first (c .before .before .before .before .before .before .before .before .before .before .before .before .before .before .before .before .before .before .before .before .put-eights .ensures)) .low,
+      c .before .before .before .before .before .before .before .before .before .before .before .before .before .before .before .before .loop-test .taken,
+      c .before .before .before .before .past .ensures .on,
+      c .before .before .put-eights2 .ensures .on,
+      c .before .before .put-eights2 .ensures .inside,
+    )
 
 loop-less-2 : tie.Need-loop-less-2 Inv-loop μ-loop
-loop-less-2 c =
-    let turn = c .before .before .before .before .before .before .before .before .before .before .before .before in
-    omega (arith, c .past .ensures .on, turn .loop-test .taken)
+loop-less-2 c = omega (arith, c .before .before .before .before .past .ensures .on, c .before .before .put-eights2 .ensures .on, c .before .before .before .before .before .before .before .before .before .before .before .before .before .before .before .before .loop-test .taken)
 
 loop-again-2 : tie.Need-loop-again-2 Inv-loop μ-loop
 loop-again-2 c =
-    let told = c .before .before .before .before .before .before in
-    let first = told .before .before in
-    sofar-char (first .before .before .before .before .before .loop .inv) (first .first .ensures) (told .x .given .1)
-    (c .past .ensures) (c .before .before .before .put2 .ensures)
+    λ before p.
+    let next = sofar-char (c .before .before .before .before .before .before .before .before .before .before .before .before .before .before .before .before .before .loop .inv before p) (c .before .before .before .before .before .before .before .before .before .before .before .before .first .ensures) (c .before .before .before .before .before .before .before .before .before .before .x .given .1) (c .before .before .before .before .past .ensures) (c .before .before .before .before .before .before .before .put2 .ensures) in
+    sofar-at (c .before .before .put-eights2 .ensures .goes before next) (omega arith)
 
 enum-told : tie.Need-enum-told Inv-loop μ-loop
 enum-told c = search needs
 
 same-length : tie.Need-same-length Inv-loop μ-loop
-same-length c = sofar-length (c .before .before .before .before .before .before .before .loop .inv)
+same-length c = sofar-length (c .before .before .before .before .before .before .before .loop .inv _ (sofar-first (c .before .before .before .before .before .before .before .before .before .before .put-eights .ensures)))
 
 returns : tie.Need-returns Inv-loop μ-loop
-returns c =
-    let first = c .before .before in
-    sofar-lone (first .before .before .before .before .before .loop .inv) (first .first .ensures)
-    (c .enum-told .given .1)
+returns c = sofar-lone (c .before .before .before .before .before .before .before .loop .inv _ (sofar-first (c .before .before .before .before .before .before .before .before .before .before .put-eights .ensures))) (c .before .before .first .ensures) (c .enum-told .given .1)
 
 same-length-2 : tie.Need-same-length-2 Inv-loop μ-loop
-same-length-2 c = sofar-length (c .before .before .loop .inv)
+same-length-2 c = sofar-length (c .before .before .loop .inv _ (sofar-first (c .before .before .before .before .before .put-eights .ensures)))
 
 returns-2 : tie.Need-returns-2 Inv-loop μ-loop
-returns-2 c = sofar-count (c .before .before .loop .inv) (c .before .loop-test .left) (c .if3 .taken)
+returns-2 c = sofar-count (c .before .before .loop .inv _ (sofar-first (c .before .before .before .before .before .put-eights .ensures))) (c .before .loop-test .left) (c .if3 .taken)
 
 same-length-3 : tie.Need-same-length-3 Inv-loop μ-loop
-same-length-3 c = sofar-length (c .before .before .loop .inv)
+same-length-3 c = sofar-length (c .before .before .loop .inv _ (sofar-first (c .before .before .before .before .before .put-eights .ensures)))
 
 returns-3 : tie.Need-returns-3 Inv-loop μ-loop
-returns-3 c = sofar-short (c .before .before .loop .inv) (c .before .loop-test .left) (c .if3 .left)
+returns-3 c = sofar-short (c .before .before .loop .inv _ (sofar-first (c .before .before .before .before .before .put-eights .ensures))) (c .before .loop-test .left) (c .if3 .left)
 
 pub decode-spec : {M : Type 1} → statement M
 decode-spec =
@@ -118,6 +125,7 @@ decode-spec =
     (tie.spec
     Inv-loop
     μ-loop
+    put-eights-requires
     loop-holds
     shared-slice-read-b
     wide-requires
@@ -132,8 +140,12 @@ decode-spec =
     first-requires
     enum-known-x
     put-requires-2
-    add-n-2
     past-requires
+    add-put-eights
+    put-eights-requires-2
+    add-n-2
+    sub-n
+    add-n-3
     loop-less-2
     loop-again-2
     enum-told

@@ -17,7 +17,7 @@ add-result-2 : tie.Need-add-result-2
 add-result-2 c = search needs
 
 returns-2 : tie.Need-returns-2
-returns-2 c = past-more _ _ _
+returns-2 c = past-more _ _ _ (c .if1 .left)
 
 pub past-spec : {M : Type 1} → statement M
 past-spec = tie.close (tie.spec sub-if1 returns add-result add-result-2 returns-2)

@@ -1,5 +1,5 @@
 -- Each turn fills one slot or ends the walk; whatever object stands at the place is the one walked over.
-use mathlib.Core.Path.{_≡_, sym, _∙_, subst}
+use mathlib.Core.Path.{sym, _∙_, subst}
 use Prim.Native.Nat.{ℕ, _≤_, _<_}
 use native.Mathlib.Omega.{arith}
 use Rattle.text.specs.Contents.{Others, Leads}
@@ -7,9 +7,9 @@ use Rattle.text.specs.declared.walk.Member.{Member}
 use Rattle.text.proofs.Laws.Contents.{stands-done}
 use Rattle.text.proofs.Laws.Places.{value-grows}
 use Rattle.parts.specs.Slots.{wordsOf}
-use Rattle.parts.proofs.Laws.Walking.{Walking, walking-start, walking-told, walking-end, leader, turn}
-use Rattle.parts.proofs.Laws.Walking.{walking-unknown, walking-repeated, walking-more}
-use Rattle.parts.proofs.Laws.Walking.{leftOf, left-falls, layout-distinct, layout-few}
+use Rattle.parts.proofs.Laws.Walking.{Walking, walking-start, walking-told, walking-end, leftOf, left-falls}
+use Rattle.parts.proofs.Laws.Walking.{layout-distinct, layout-few}
+use Rattle.parts.proofs.Laws.WalkingOn.{leader, turn, walking-unknown, walking-repeated, walking-more}
 use borrow.Author.Needs.{needs}
 use Rattle.parts.proofs.members.slots.Statement.{statement}
 use Rattle.parts.proofs.members.slots.Tie as tie
@@ -31,14 +31,6 @@ loop-holds c =
 
 enum-known-m : tie.Need-enum-known-m Inv-loop μ-loop
 enum-known-m c = search needs
-
-enum-told : tie.Need-enum-told Inv-loop μ-loop
-enum-told c = search needs
-
-returns : tie.Need-returns Inv-loop μ-loop
-returns c =
-    let w = c .before .before .loop .inv in
-    walking-told w _ (walking-end w _ (c .enum-told .given .1))
 
 sub-which : tie.Need-sub-which Inv-loop μ-loop
 sub-which c =
@@ -64,11 +56,8 @@ part-which-end c =
 which-requires : tie.Need-which-requires Inv-loop μ-loop
 which-requires c κs = search needs
 
-array-write-places : tie.Need-array-write-places Inv-loop μ-loop
-array-write-places c = omega (arith, c .before .before .before .before .before .before .loop .inv .size)
-
-returns-2 : tie.Need-returns-2 Inv-loop μ-loop
-returns-2 c =
+returns : tie.Need-returns Inv-loop μ-loop
+returns c =
     let w = c .before .before .before .before .before .before .loop .inv in
     let g = c .before .before .before .before .m .given in
     let z = sym (c .if1 .taken) ∙ c .before .which .ensures in
@@ -95,11 +84,8 @@ array-read-if2 c =
     (c .before .which .ensures) (c .if1 .left) in
     omega (arith, t .to, w .size)
 
-array-write-places-2 : tie.Need-array-write-places-2 Inv-loop μ-loop
-array-write-places-2 c = omega (arith, c .before .before .before .before .before .before .before .loop .inv .size)
-
-returns-3 : tie.Need-returns-3 Inv-loop μ-loop
-returns-3 c =
+returns-2 : tie.Need-returns-2 Inv-loop μ-loop
+returns-2 c =
     let w = c .before .before .before .before .before .before .before .loop .inv in
     let g = c .before .before .before .before .before .m .given in
     let few = layout-few (c .before .before .before .before .before .before .before .before .before .before .args
@@ -119,8 +105,8 @@ mul-places c =
     let h : c .before .before .which .result ≤ 5 = omega (arith, t .to) in
     search needs
 
-array-write-places-3 : tie.Need-array-write-places-3 Inv-loop μ-loop
-array-write-places-3 c =
+array-write-places : tie.Need-array-write-places Inv-loop μ-loop
+array-write-places c =
     let w = c .before .before .before .before .before .before .before .loop .inv in
     let g = c .before .before .before .before .before .m .given in
     let l = leader w (g .0 .0) (g .0 .1 .0) (g .0 .1 .1 .0) (g .1) in
@@ -181,6 +167,17 @@ loop-again c =
     (c .before .before .if2 .left) (layout-distinct (c .before .before .before .before .before .before .before .before
     .before .before .before .before .args .layout)) _ leads
 
+enum-known-m-2 : tie.Need-enum-known-m-2 Inv-loop μ-loop
+enum-known-m-2 c = search needs
+
+array-write-places-2 : tie.Need-array-write-places-2 Inv-loop μ-loop
+array-write-places-2 c = omega (arith, c .before .before .before .loop .inv .size)
+
+returns-3 : tie.Need-returns-3 Inv-loop μ-loop
+returns-3 c =
+    let w = c .before .before .before .loop .inv in
+    walking-told w _ (walking-end w _ (c .before .m2 .given .1))
+
 pub slots-spec : {M : Type 1} → statement M
 slots-spec =
     tie.close
@@ -190,21 +187,20 @@ slots-spec =
     first-member-requires
     loop-holds
     enum-known-m
-    enum-told
-    returns
     sub-which
     part-which-start
     part-which-end
     which-requires
-    array-write-places
-    returns-2
+    returns
     mul-if2
     array-read-if2
-    array-write-places-2
-    returns-3
+    returns-2
     mul-places
-    array-write-places-3
+    array-write-places
     past-value-requires
     next-member-requires
     loop-less
-    loop-again)
+    loop-again
+    enum-known-m-2
+    array-write-places-2
+    returns-3)

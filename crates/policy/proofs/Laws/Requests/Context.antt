@@ -177,16 +177,16 @@ pub record Parts (s : List ℕ) (t : Json) (r : List ℕ) : Type 0 where
   pub value : Placed s (getD r 3 0) (slot contextKeyValuesWord members)
 
 module _ {s : List ℕ} {v e : ℕ} (t : Json) (p : Stands s t v e) (h : isObject (kindOf t) ≡ true) (r : List ℕ)
-    (f : (ms : Members) (e : ℕ) → Stands s (object ms) v e → Slotted s (wordsOf L.Context) ms r) where
+    (f : (ms : Members) (e : ℕ) → Stands s (object ms) v e → Slotted s (wordsOf L.Context) ms e r) where
   the-object : AnObject t
   the-object = is-object t h
 
-  slotted : Slotted s (wordsOf L.Context) (the-object .members) r
+  slotted : Slotted s (wordsOf L.Context) (the-object .members) e r
   slotted = f (the-object .members) e (object-stands p the-object)
 
-  pub context-parts : getD r 0 0 ≡ 0 → Parts s t r
+  pub context-parts : (getD r 0 0 ≡ 0 → ⊥) → Parts s t r
   context-parts z =
-      let q = slotted .right z in
+      let q = slotted .right z .1 in
       record {
         members = the-object .members;
         is = the-object .is;
@@ -196,6 +196,9 @@ module _ {s : List ℕ} {v e : ℕ} (t : Json) (p : Stands s t v e) (h : isObjec
         value = q .1 3 (record { from = omega arith; to = omega arith });
       }
 
-  pub context-apart : (getD r 0 0 ≡ 0 → ⊥) → contextOf t ≡ wrong
+  pub context-end : (getD r 0 0 ≡ 0 → ⊥) → getD r 0 0 ≡ e
+  context-end z = slotted .right z .0
+
+  pub context-apart : getD r 0 0 ≡ 0 → contextOf t ≡ wrong
   context-apart z =
       ap contextOf (the-object .is) ∙ context-not (the-object .members) (slotted .not-right z)

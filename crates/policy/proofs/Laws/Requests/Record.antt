@@ -112,16 +112,16 @@ pub record Parts (s : List ℕ) (t : Json) (r : List ℕ) : Type 0 where
   pub context : Placed s (getD r 3 0) (slot contextEntriesWord members)
 
 module _ {s : List ℕ} {v e : ℕ} (t : Json) (p : Stands s t v e) (h : isObject (kindOf t) ≡ true) (r : List ℕ)
-    (f : (ms : Members) (e : ℕ) → Stands s (object ms) v e → Slotted s (wordsOf L.Record) ms r) where
+    (f : (ms : Members) (e : ℕ) → Stands s (object ms) v e → Slotted s (wordsOf L.Record) ms e r) where
   the-object : AnObject t
   the-object = is-object t h
 
-  slotted : Slotted s (wordsOf L.Record) (the-object .members) r
+  slotted : Slotted s (wordsOf L.Record) (the-object .members) e r
   slotted = f (the-object .members) e (object-stands p the-object)
 
-  pub request-parts : getD r 0 0 ≡ 0 → Parts s t r
+  pub request-parts : (getD r 0 0 ≡ 0 → ⊥) → Parts s t r
   request-parts z =
-      let q = slotted .right z in
+      let q = slotted .right z .1 in
       record {
         members = the-object .members;
         is = the-object .is;
@@ -131,7 +131,7 @@ module _ {s : List ℕ} {v e : ℕ} (t : Json) (p : Stands s t v e) (h : isObjec
         context = q .1 3 (record { from = omega arith; to = omega arith });
       }
 
-  pub request-apart : (getD r 0 0 ≡ 0 → ⊥) → requestOf t ≡ wrong
+  pub request-apart : getD r 0 0 ≡ 0 → requestOf t ≡ wrong
   request-apart z = ap requestOf (the-object .is) ∙ request-not (the-object .members) (slotted .not-right z)
 
 -- ---- in the run

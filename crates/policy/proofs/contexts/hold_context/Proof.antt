@@ -1,21 +1,21 @@
 -- The key is held behind the place of the type, the type is put there, and the value is held behind the key.
-use mathlib.Core.Path.{refl, sym, _∙_}
+use mathlib.Core.Path.{_≡_, refl, sym, _∙_}
 use Prim.Native.Nat.{ℕ, _+_, _<_}
 use native.Mathlib.Omega.{arith}
-use lib.ListN.{length, length-set}
+use lib.ListN.{length, getD, length-set}
 use borrow.Author.Tests.{not-true, not-false}
 use Rattle.text.specs.Json.{Json}
 use Rattle.text.specs.Contents.{Stands}
 use Rattle.syntax.specs.Words.{contextKeyNameWord, contextKeyTypeWord, contextKeyValuesWord}
 use Rattle.syntax.specs.Members.{slot, required}
-use Rattle.syntax.specs.RecordLayout.{keyNameOf}
+use Rattle.syntax.specs.RecordLayout.{keyNameOf, contextOf}
 use Rattle.held.specs.Held.{heldText, heldContext}
-use Rattle.parts.specs.Holding.{isObject, Laid}
-use Rattle.parts.proofs.Laws.Formed.{holds-past}
+use Rattle.parts.specs.Holding.{isObject, Laid, Holds}
+use Rattle.parts.proofs.Laws.Formed.{holds-past, holds-wrong}
 use Rattle.parts.proofs.Laws.Requests.Members.{is-kind, refused, holds-as}
 use Rattle.parts.proofs.Laws.Requests.Objects.{is-object, object-stands}
 use Rattle.policy.proofs.Laws.Requests.Context.{not-context, contextWithin, key-wrong, type-wrong, Parts}
-use Rattle.policy.proofs.Laws.Requests.Context.{context-parts, context-apart, context-held}
+use Rattle.policy.proofs.Laws.Requests.Context.{context-parts, context-end, context-apart, context-held}
 use Rattle.policy.proofs.Laws.Requests.Fits.{key-room, front-room, value-room}
 use borrow.Author.Needs.{needs}
 use Rattle.policy.proofs.contexts.hold_context.Statement.{statement}
@@ -24,7 +24,16 @@ use Rattle.policy.proofs.contexts.hold_context.Tie as tie
 abbrev begin : tie.Else2 → tie.Start
 begin c = c .before .before .before .before .before .before .before
 
--- the members of whatever value stands there
+-- where whatever value stands there ends
+ended : (c : tie.Else2) (t : Json) (e : ℕ) → Stands (begin c .args .s .now) t (begin c .args .v) e
+    → getD (c .before .slots .result) 0 0 ≡ e
+ended c t e p =
+    let tested = c .before .before .before in
+    let o = is-kind isObject (tested .before .kind-at .ensures) (tested .is-object .ensures)
+    (not-false _ (c .before .before .if1 .left)) t e p in
+    context-end t p o (c .before .slots .result) (c .before .slots .ensures) (c .if2 .left)
+
+-- its members
 parts : (c : tie.Else2) (t : Json) (e : ℕ) → Stands (begin c .args .s .now) t (begin c .args .v) e
     → Parts (begin c .args .s .now) t (c .before .slots .result)
 parts c t e p =
@@ -52,6 +61,36 @@ key c m =
     (begin (known c) .args .at + 1) (required keyNameOf (slot contextKeyNameWord (m .members)))
     (call .hold-key-name .ensures _ (m .key)) (c .h .given .1)
 
+abbrev keyed : tie.After-hold-typed → tie.After-h
+keyed c = c .before .before .before .before .before
+
+-- the entry as far as its value tells
+entry : (c : tie.After-hold-typed) (t : Json) (e : ℕ)
+    → Stands (begin (known (keyed c)) .args .s .now) t (begin (known (keyed c)) .args .v) e
+    → Holds heldContext (begin (known (keyed c)) .args .run .now) (c .hold-typed .last .1 .1 .0)
+    (begin (known (keyed c)) .args .at) (contextOf t) (c .hold-typed .result)
+entry c t e p =
+    let at-if3 = c .before .before in
+    let at-if2 = known (keyed c) in
+    let m = parts at-if2 t e p in
+    let x = slot contextKeyNameWord (m .members) in
+    let y = slot contextKeyTypeWord (m .members) in
+    let z = slot contextKeyValuesWord (m .members) in
+    let run′ = c .hold-typed .last .1 .1 .0 in
+    let h = context-held x y z (key (keyed c) m) (low at-if2) (at-if3 .before .type-at .result)
+    (at-if3 .before .type-at .ensures _ (m .type)) (at-if3 .if3 .left) run′ (c .hold-typed .result)
+    (c .hold-typed .ensures z (m .value)) in
+    holds-as heldContext (begin at-if2 .args .run .now) run′ (begin at-if2 .args .at) (contextWithin (m .members)) _
+    (c .hold-typed .result) h (m .said)
+
+size : (c : tie.After-hold-typed)
+    → length (c .hold-typed .last .1 .1 .0) ≡ length (begin (known (keyed c)) .args .run .now)
+size c =
+    let at-type-at = c .before .before .before in
+    let at-hold-key-name = at-type-at .before .before .before .before .before .before in
+    c .hold-typed .kept .1 .1 .0 ∙ length-set (at-hold-key-name .hold-key-name .last .1 .1 .0)
+    (begin (known (keyed c)) .args .at) (at-type-at .type-at .result) ∙ at-hold-key-name .hold-key-name .kept .1 .1 .0
+
 kind-at-requires : tie.Need-kind-at-requires
 kind-at-requires c κs = search needs
 
@@ -73,8 +112,8 @@ slots-requires c κs =
     (c .if1 .left)) _ _ (start .pre .is) in
     record { what = _; stop = _; is = object-stands (start .pre .is) (is-object _ o) }
 
-array-read-if2 : tie.Need-array-read-if2
-array-read-if2 c = search needs
+array-read-end : tie.Need-array-read-end
+array-read-end c = search needs
 
 returns-2 : tie.Need-returns-2
 returns-2 c =
@@ -171,31 +210,30 @@ hold-typed-requires c κs =
           (c .before .before .type-at .result) (key at-h m);
     }
 
+enum-known-g : tie.Need-enum-known-g
+enum-known-g c = search needs
+
+enum-told-2 : tie.Need-enum-told-2
+enum-told-2 c = search needs
+
 same-length-3 : tie.Need-same-length-3
-same-length-3 c =
-    let at-type-at = c .before .before .before .before .before in
-    let at-hold-key-name = at-type-at .before .before .before .before .before .before in
-    let start = at-hold-key-name .before .before .before .before .before .before .before .before .before in
-    c .before .before .hold-typed .kept .1 .1 .0 ∙ length-set (at-hold-key-name .hold-key-name .last .1 .1 .0)
-    (start .args .at) (at-type-at .type-at .result) ∙ at-hold-key-name .hold-key-name .kept .1 .1 .0
+same-length-3 c = size (c .before .before .before .before)
 
 returns-5 : tie.Need-returns-5
 returns-5 c =
-    let at-if3 = c .before .before .before .before in
-    let at-type-at = at-if3 .before in
-    let at-h = at-type-at .before .before in
-    let at-if2 = at-h .before .before .before .before .before .before in
-    let start = at-if2 .before .before .before .before .before .before .before in
-    λ t e p. let m = parts at-if2 t e p in
-    let x = slot contextKeyNameWord (m .members) in
-    let y = slot contextKeyTypeWord (m .members) in
-    let z = slot contextKeyValuesWord (m .members) in
-    let run′ = c .before .before .hold-typed .last .1 .1 .0 in
-    let h = context-held x y z (key at-h m) (low at-if2) (at-type-at .type-at .result)
-    (at-type-at .type-at .ensures _ (m .type)) (at-if3 .if3 .left) run′ (c .before .before .hold-typed .result)
-    (c .before .before .hold-typed .ensures z (m .value)) in
-    holds-as heldContext (start .args .run .now) run′ (start .args .at) (contextWithin (m .members)) _
-    (c .before .before .hold-typed .result) h (m .said)
+    λ t e p. holds-wrong heldContext _ _ _ (contextOf t) (entry (c .before .before .before .before) t e p)
+    (c .enum-told2 .given .1)
+
+same-length-4 : tie.Need-same-length-4
+same-length-4 c = size (c .before .before .before .before .before)
+
+returns-6 : tie.Need-returns-6
+returns-6 c =
+    let at-hold-typed = c .before .before .before .before .before in
+    λ t e p. (
+      holds-past heldContext _ _ _ (contextOf t) (entry at-hold-typed t e p) (c .before .g .given .1),
+      ended (known (keyed at-hold-typed)) t e p,
+    )
 
 pub hold-context-spec : {M : Type 1} → statement M
 hold-context-spec =
@@ -205,7 +243,7 @@ hold-context-spec =
     is-object-requires
     returns
     slots-requires
-    array-read-if2
+    array-read-end
     returns-2
     array-read-hold-key-name
     add-hold-key-name
@@ -222,5 +260,9 @@ hold-context-spec =
     slice-write-run
     array-read-hold-typed
     hold-typed-requires
+    enum-known-g
+    enum-told-2
     same-length-3
-    returns-5)
+    returns-5
+    same-length-4
+    returns-6)

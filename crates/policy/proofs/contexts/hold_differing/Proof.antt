@@ -1,15 +1,16 @@
 -- Each turn holds one entry behind those before it, or ends the walk: none left, one that is wrong, a key given twice.
-use mathlib.Core.Path.{sym, _∙_}
+use mathlib.Core.Path.{_≡_, sym, _∙_}
 use native.Mathlib.Omega.{arith}
 use Rattle.syntax.specs.RecordLayout.{contextOf, sameContext}
 use Rattle.held.specs.Held.{heldContext}
-use Rattle.parts.proofs.Laws.Formed.{holds-past, holds-wrong}
+use Rattle.parts.specs.Holding.{Laid}
+use Rattle.parts.proofs.Laws.Formed.{ends-past, ends-wrong}
 use Rattle.parts.proofs.Laws.Differ.{sameContext-symmetric}
-use Rattle.parts.proofs.Laws.Gathering.{elementLeft, next-holdable, next-standing, next-resting, next-few}
+use Rattle.parts.proofs.Laws.Gathering.{elementLeft, next-holdable, next-resting, next-few}
 use Rattle.parts.proofs.Laws.Gathering.{gathering-less}
 use Rattle.policy.proofs.Laws.Requests.Fits.{context-fits}
 use Rattle.policy.proofs.Laws.Apart.{Apart, apart-start, apart-end, after, apart-wrong, one-lies}
-use Rattle.policy.proofs.Laws.Apart.{many-lie, apart-alike, apart-more}
+use Rattle.policy.proofs.Laws.Apart.{many-lie, apart-lying, apart-size, apart-alike, apart-more}
 use borrow.Author.Needs.{needs}
 use Rattle.policy.proofs.contexts.hold_differing.Statement.{statement}
 use Rattle.policy.proofs.contexts.hold_differing.Tie as tie
@@ -20,6 +21,26 @@ Inv-loop s v run₀ at m₀ p₀ n₀ run m p n =
 
 abbrev μ-loop : tie.MeasureT-loop
 μ-loop s v run₀ at m₀ p₀ n₀ run m p n = elementLeft s m
+
+abbrev turn : tie.After-hold-context Inv-loop μ-loop → tie.After-m Inv-loop μ-loop
+turn c = c .before .before .before
+
+abbrev call : tie.After-h Inv-loop μ-loop → tie.After-hold-context Inv-loop μ-loop
+call c = c .before .before .before .before
+
+-- the entry of the turn lies in the run, and where it ends is told
+held : (c : tie.After-h Inv-loop μ-loop)
+    → (Laid heldContext (turn (call c) .before .before .loop .run) (call c .hold-context .last .1 .1 .0)
+    (turn (call c) .before .before .loop .p)
+    (contextOf (after (turn (call c) .before .before .loop .inv) _ (turn (call c) .m .given .1) .head))
+    (c .h .given .0 .0))
+    × (c .h .given .0 .1 .0 ≡ after (turn (call c) .before .before .loop .inv) _ (turn (call c) .m .given .1) .stop)
+held c =
+    let at-m = turn (call c) in
+    let at-loop = at-m .before .before in
+    let a = after (at-loop .loop .inv) _ (at-m .m .given .1) in
+    ends-past heldContext (at-loop .loop .run) (call c .hold-context .last .1 .1 .0) (at-loop .loop .p)
+    (contextOf (a .head)) (a .stop) (call c .hold-context .ensures _ _ (a .stands)) (c .h .given .1)
 
 first-element-requires : tie.Need-first-element-requires Inv-loop μ-loop
 first-element-requires c κs =
@@ -63,103 +84,76 @@ enum-told-2 c = search needs
 same-length-2 : tie.Need-same-length-2 Inv-loop μ-loop
 same-length-2 c =
     let at-hold-context = c .before .before .before .before in
-    let at-loop = at-hold-context .before .before .before .before .before in
-    at-hold-context .hold-context .kept .1 .1 .0 ∙ at-loop .loop .inv .gathering .sofar .extends .size
+    at-hold-context .hold-context .kept .1 .1 .0
+    ∙ turn at-hold-context .before .before .loop .inv .gathering .sofar .extends .size
 
 returns-2 : tie.Need-returns-2 Inv-loop μ-loop
 returns-2 c =
     let at-hold-context = c .before .before .before .before in
-    let at-m = at-hold-context .before .before .before in
+    let at-m = turn at-hold-context in
     let at-loop = at-m .before .before in
     let a = after (at-loop .loop .inv) _ (at-m .m .given .1) in
-    apart-wrong (at-loop .loop .inv) _ (at-m .m .given .1) (holds-wrong heldContext (at-loop .loop .run)
-    (at-hold-context .hold-context .last .1 .1 .0) (at-loop .loop .p) (contextOf (a .head))
+    apart-wrong (at-loop .loop .inv) _ (at-m .m .given .1) (ends-wrong heldContext (at-loop .loop .run)
+    (at-hold-context .hold-context .last .1 .1 .0) (at-loop .loop .p) (contextOf (a .head)) (a .stop)
     (at-hold-context .hold-context .ensures _ _ (a .stands)) (c .enum-told2 .given .1))
 
 has-context-key-requires : tie.Need-has-context-key-requires Inv-loop μ-loop
 has-context-key-requires c κs =
-    let at-hold-context = c .before .before .before .before .before .before in
-    let at-m = at-hold-context .before .before .before in
-    let at-loop = at-m .before .before in
-    let a = after (at-loop .loop .inv) _ (at-m .m .given .1) in
-    let d = holds-past heldContext (at-loop .loop .run) (at-hold-context .hold-context .last .1 .1 .0)
-    (at-loop .loop .p) (contextOf (a .head)) (at-hold-context .hold-context .ensures _ _ (a .stands))
-    (c .before .before .h .given .1) in (
-      record {
-        things = at-loop .loop .inv .gathering .things;
-        count = at-loop .loop .inv .gathering .count;
-        lies =
-            many-lie (at-loop .loop .inv) _ (at-m .m .given .1) d;
-      },
-      record { thing = d .thing; lies = one-lies (at-loop .loop .inv) _ (at-m .m .given .1) d },
-    )
+    let at-h = c .before .before in
+    let at-m = turn (call at-h) in
+    apart-lying (at-m .before .before .loop .inv) _ (at-m .m .given .1) (held at-h .0)
 
 same-length-3 : tie.Need-same-length-3 Inv-loop μ-loop
 same-length-3 c =
-    let at-hold-context = c .before .before .before .before .before .before .before .before in
-    let at-loop = at-hold-context .before .before .before .before .before in
-    at-hold-context .hold-context .kept .1 .1 .0 ∙ at-loop .loop .inv .gathering .sofar .extends .size
+    let at-h = c .before .before .before .before in
+    let at-m = turn (call at-h) in
+    apart-size (at-m .before .before .loop .inv) _ (at-m .m .given .1) (held at-h .0)
 
 returns-3 : tie.Need-returns-3 Inv-loop μ-loop
 returns-3 c =
     let at-h = c .before .before .before .before in
-    let at-hold-context = at-h .before .before .before .before in
-    let at-m = at-hold-context .before .before .before in
-    let at-loop = at-m .before .before in
-    let a = after (at-loop .loop .inv) _ (at-m .m .given .1) in
-    let d = holds-past heldContext (at-loop .loop .run) (at-hold-context .hold-context .last .1 .1 .0)
-    (at-loop .loop .p) (contextOf (a .head)) (at-hold-context .hold-context .ensures _ _ (a .stands))
-    (at-h .h .given .1) in
-    apart-alike (at-loop .loop .inv) _ (at-m .m .given .1) d
-    (sym (c .before .has-context-key .ensures _ _ (at-loop .loop .inv .gathering .count) (many-lie
-    (at-loop .loop .inv) _ (at-m .m .given .1) d) (one-lies (at-loop .loop .inv) _ (at-m .m .given .1) d))
+    let at-m = turn (call at-h) in
+    let inv = at-m .before .before .loop .inv in
+    let d = held at-h .0 in
+    apart-alike inv _ (at-m .m .given .1) d
+    (sym (c .before .has-context-key .ensures _ _ (inv .gathering .count) (many-lie inv _ (at-m .m .given .1) d)
+    (one-lies inv _ (at-m .m .given .1) d))
     ∙ c .if1 .taken)
 
 add-n : tie.Need-add-n Inv-loop μ-loop
 add-n c =
-    let at-m = c .before .before .before .before .before .before .before .before .before .before .before in
-    let at-loop = at-m .before .before in
-    omega (arith, next-few heldContext contextOf context-fits (at-loop .loop .inv .gathering) _ (at-m .m .given .1))
-
-past-value-requires : tie.Need-past-value-requires Inv-loop μ-loop
-past-value-requires c κs =
-    let at-m = c .before .before .before .before .before .before .before .before .before .before .before in
-    let at-loop = at-m .before .before in
-    next-standing heldContext contextOf context-fits (at-loop .loop .inv .gathering) _ (at-m .m .given .1)
+    let at-m = turn (call (c .before .before .before .before)) in
+    omega (
+      arith,
+      next-few heldContext contextOf context-fits (at-m .before .before .loop .inv .gathering) _
+          (at-m .m .given .1),
+    )
 
 next-element-requires : tie.Need-next-element-requires Inv-loop μ-loop
 next-element-requires c κs =
-    let at-m = c .before .before .before .before .before .before .before .before .before .before .before .before in
-    let at-loop = at-m .before .before in
-    let a = after (at-loop .loop .inv) _ (at-m .m .given .1) in
-    next-resting heldContext contextOf context-fits (at-loop .loop .inv .gathering) _ (at-m .m .given .1)
-    (c .past-value .ensures _ _ (a .stands))
+    let at-h = c .before .before .before .before in
+    let at-m = turn (call at-h) in
+    next-resting heldContext contextOf context-fits (at-m .before .before .loop .inv .gathering) _ (at-m .m .given .1)
+    (held at-h .1)
 
 loop-less : tie.Need-loop-less Inv-loop μ-loop
 loop-less c =
-    let at-m =
-    c .before .before .before .before .before .before .before .before .before .before .before .before .before in
-    let at-loop = at-m .before .before in
-    let a = after (at-loop .loop .inv) _ (at-m .m .given .1) in
-    gathering-less heldContext contextOf context-fits (at-loop .loop .inv .gathering) _ (at-m .m .given .1) _ _
-    (c .before .past-value .ensures _ _ (a .stands)) (c .next-element .ensures)
+    let at-h = c .before .before .before .before .before in
+    let at-m = turn (call at-h) in
+    gathering-less heldContext contextOf context-fits (at-m .before .before .loop .inv .gathering) _ (at-m .m .given .1)
+    _ _ (held at-h .1) (c .next-element .ensures)
 
 loop-again : tie.Need-loop-again Inv-loop μ-loop
 loop-again c =
-    let at-has-context-key = c .before .before .before in
-    let at-h = at-has-context-key .before .before .before in
-    let at-hold-context = at-h .before .before .before .before in
-    let at-m = at-hold-context .before .before .before in
-    let at-loop = at-m .before .before in
-    let a = after (at-loop .loop .inv) _ (at-m .m .given .1) in
-    let d = holds-past heldContext (at-loop .loop .run) (at-hold-context .hold-context .last .1 .1 .0)
-    (at-loop .loop .p) (contextOf (a .head)) (at-hold-context .hold-context .ensures _ _ (a .stands))
-    (at-h .h .given .1) in
-    apart-more (at-loop .loop .inv) _ (at-m .m .given .1) d
-    (sym (at-has-context-key .has-context-key .ensures _ _ (at-loop .loop .inv .gathering .count) (many-lie
-    (at-loop .loop .inv) _ (at-m .m .given .1) d) (one-lies (at-loop .loop .inv) _ (at-m .m .given .1) d))
-    ∙ c .before .before .if1 .left)
-    _ _ (c .before .past-value .ensures _ _ (a .stands)) (c .next-element .ensures)
+    let at-h = c .before .before .before .before .before in
+    let at-m = turn (call at-h) in
+    let inv = at-m .before .before .loop .inv in
+    let d = held at-h .0 in
+    apart-more inv _ (at-m .m .given .1) d
+    (sym (c .before .before .has-context-key .ensures _ _ (inv .gathering .count) (many-lie inv _ (at-m .m .given .1) d)
+    (one-lies inv _ (at-m .m .given .1) d))
+    ∙ c .before .if1 .left)
+    _ _ (held at-h .1) (c .next-element .ensures)
 
 pub hold-differing-spec : {M : Type 1} → statement M
 hold-differing-spec =
@@ -182,7 +176,6 @@ hold-differing-spec =
     same-length-3
     returns-3
     add-n
-    past-value-requires
     next-element-requires
     loop-less
     loop-again)

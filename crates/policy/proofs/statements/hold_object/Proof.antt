@@ -4,7 +4,8 @@ use native.Mathlib.Omega.{arith}
 use Rattle.parts.specs.Spoken.{toldEffect}
 use Rattle.policy.specs.Statements.{heldParts}
 use Rattle.parts.proofs.Laws.Formed.{holds-past, holds-wrong}
-use Rattle.policy.proofs.Laws.Statements.{slots-left, effect-missing, action-missing, resource-missing}
+use Rattle.policy.proofs.Laws.Statements.{slots-left, slots-end, effect-missing, action-missing}
+use Rattle.policy.proofs.Laws.Statements.{resource-missing}
 use Rattle.policy.proofs.Laws.Statements.{sid-placed, condition-placed, effect-there, action-there}
 use Rattle.policy.proofs.Laws.Statements.{resource-there, effect-standing, effect-left, front-room}
 use Rattle.policy.proofs.Laws.Statements.{parts-holdable, parts-left, statement-laid}
@@ -17,8 +18,8 @@ slots-requires c κs =
     let pre = c .before .before .pre in
     record { what = pre .what; stop = pre .stop; is = pre .is }
 
-array-read-if1 : tie.Need-array-read-if1
-array-read-if1 c = search needs
+array-read-end : tie.Need-array-read-end
+array-read-end c = search needs
 
 returns : tie.Need-returns
 returns c = λ ms e p. slots-left ms (c .before .slots .ensures ms e p) (c .if1 .taken)
@@ -177,18 +178,20 @@ returns-7 c =
     let action = action-there ms v z ne na nr in
     let resource = resource-there ms v z ne na nr in
     let held = parts .ensures _ _ _ _ _ _ (sid-placed ms v z) (action .stands) (resource .stands)
-    (condition-placed ms v z) in
-    statement-laid ms v z ne na nr (toldEffect (told .result)) (told .ensures _ _ (effect .stands))
-    (c .before .before .before .before .before .before .before .before .effect-number .ensures)
-    (c .before .before .before .before .before .before .before .if5 .left) low (holds-past heldParts run _ _ _ held
-    (c .before .h .given .1))
+    (condition-placed ms v z) in (
+      statement-laid ms v z ne na nr (toldEffect (told .result)) (told .ensures _ _ (effect .stands))
+          (c .before .before .before .before .before .before .before .before .effect-number .ensures)
+          (c .before .before .before .before .before .before .before .if5 .left) low
+          (holds-past heldParts run _ _ _ held (c .before .h .given .1)),
+      slots-end ms v z,
+    )
 
 pub hold-object-spec : {M : Type 1} → statement M
 hold-object-spec =
     tie.close
     (tie.spec
     slots-requires
-    array-read-if1
+    array-read-end
     returns
     array-read-effect
     returns-2

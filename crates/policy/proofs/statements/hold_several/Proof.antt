@@ -4,7 +4,7 @@ use native.Mathlib.Omega.{arith}
 use borrow.Author.Tests.{not-true, not-false}
 use Rattle.held.specs.Held.{heldStatement}
 use Rattle.parts.specs.Holding.{isList}
-use Rattle.parts.proofs.Laws.Formed.{holds-past, holds-wrong, gathers-several, gathers-wrong}
+use Rattle.parts.proofs.Laws.Formed.{ends-past, ends-wrong, lists-several, lists-wrong}
 use Rattle.parts.proofs.Laws.Several.{kind-told, is-list, list-holdable, gathered-few, statement-some}
 use Rattle.parts.proofs.Laws.Several.{list-stands}
 use Rattle.policy.proofs.Laws.StatementsPolicy.{single-left, single-laid, several-left, several-none}
@@ -50,7 +50,7 @@ returns c =
     let one = c .before .before .before .before .hold-statement in
     let not = kind-told isList (kind .ensures) (test .ensures) (not-true (test .result)
     (c .before .before .before .before .before .before .if1 .taken)) in
-    single-left t (not t e p) (holds-wrong heldStatement run _ _ _ (one .ensures t e p) (c .enum-told .given .1))
+    single-left t (not t e p) (ends-wrong heldStatement run _ _ _ _ (one .ensures t e p) (c .enum-told .given .1))
 
 slice-write-run : tie.Need-slice-write-run
 slice-write-run c =
@@ -61,8 +61,8 @@ slice-write-run c =
     let run = c .before .before .before .before .before .before .before .before .before .before .before .before .args
     .run .now in
     let one = c .before .before .before .before .before .hold-statement in
-    let d = holds-past heldStatement run _ _ _ (one .ensures _ _ here) (c .before .h .given .1) in
-    omega (arith, d .extends .size, pre .roomy .room)
+    let d = ends-past heldStatement run _ _ _ _ (one .ensures _ _ here) (c .before .h .given .1) in
+    omega (arith, d .0 .extends .size, pre .roomy .room)
 
 same-length-2 : tie.Need-same-length-2
 same-length-2 c = search needs
@@ -79,8 +79,8 @@ returns-2 c =
     let one = c .before .before .before .before .before .hold-statement in
     let not = kind-told isList (kind .ensures) (test .ensures) (not-true (test .result)
     (c .before .before .before .before .before .before .before .if1 .taken)) in
-    single-laid t (not t e p) (omega (arith, pre .roomy .room)) (holds-past heldStatement run _ _ _
-    (one .ensures t e p) (c .before .h .given .1))
+    let d = ends-past heldStatement run _ _ _ _ (one .ensures t e p) (c .before .h .given .1) in
+    (single-laid t (not t e p) (omega (arith, pre .roomy .room)) (d .0), d .1)
 
 hold-statements-requires : tie.Need-hold-statements-requires
 hold-statements-requires c κs =
@@ -111,7 +111,7 @@ returns-3 c =
     let yes = kind-told isList (kind .ensures) (test .ensures) (not-false (test .result)
     (c .before .before .before .before .before .before .if1 .left)) in
     let stands = list-stands p (yes t e p) in
-    several-left (is-list t (yes t e p) .is) (gathers-wrong heldStatement run _ _ _ (many .ensures _ _ stands)
+    several-left (is-list t (yes t e p) .is) (lists-wrong heldStatement run _ _ _ _ (many .ensures _ _ stands)
     (c .enum-told2 .given .1))
 
 same-length-4 : tie.Need-same-length-4
@@ -128,9 +128,9 @@ returns-4 c =
     let yes = kind-told isList (kind .ensures) (test .ensures) (not-false (test .result)
     (c .before .before .before .before .before .before .before .before .if1 .left)) in
     let stands = list-stands p (yes t e p) in
-    let gathered = gathers-several heldStatement run _ _ _ (many .ensures _ _ stands)
+    let gathered = lists-several heldStatement run _ _ _ _ (many .ensures _ _ stands)
     (c .before .before .c .given .1) in
-    several-none (is-list t (yes t e p) .is) (c .if2 .taken) gathered
+    several-none (is-list t (yes t e p) .is) (c .if2 .taken) (gathered .0)
 
 cast-run : tie.Need-cast-run
 cast-run c =
@@ -146,9 +146,9 @@ cast-run c =
     let yes = kind-told isList (kind .ensures) (test .ensures) (not-false (test .result)
     (c .before .before .before .before .before .before .before .before .if1 .left)) in
     let stood = list-stands here (yes _ _ here) in
-    let g = gathers-several heldStatement run _ _ _ (many .ensures _ _ stood) (c .before .before .c .given .1) in
-    let few = gathered-few statement-some (omega (arith, pre .roomy .room)) g in
-    let k : c .before .before .c .given .0 .1 .0 ≤ 16384 = omega (arith, few, pre .roomy .bounded) in
+    let g = lists-several heldStatement run _ _ _ _ (many .ensures _ _ stood) (c .before .before .c .given .1) in
+    let few = gathered-few statement-some (omega (arith, pre .roomy .room)) (g .0) in
+    let k : c .before .before .c .given .0 .1 .1 .0 ≤ 16384 = omega (arith, few, pre .roomy .bounded) in
     search needs
 
 slice-write-run-2 : tie.Need-slice-write-run-2
@@ -165,8 +165,8 @@ slice-write-run-2 c =
     let yes = kind-told isList (kind .ensures) (test .ensures) (not-false (test .result)
     (c .before .before .before .before .before .before .before .before .if1 .left)) in
     let stood = list-stands here (yes _ _ here) in
-    let g = gathers-several heldStatement run _ _ _ (many .ensures _ _ stood) (c .before .before .c .given .1) in
-    omega (arith, g .extends .size, pre .roomy .room)
+    let g = lists-several heldStatement run _ _ _ _ (many .ensures _ _ stood) (c .before .before .c .given .1) in
+    omega (arith, g .0 .extends .size, pre .roomy .room)
 
 same-length-5 : tie.Need-same-length-5
 same-length-5 c = search needs
@@ -184,9 +184,11 @@ returns-5 c =
     let yes = kind-told isList (kind .ensures) (test .ensures) (not-false (test .result)
     (c .before .before .before .before .before .before .before .before .if1 .left)) in
     let stands = list-stands p (yes t e p) in
-    let gathered = gathers-several heldStatement run _ _ _ (many .ensures _ _ stands)
-    (c .before .before .c .given .1) in
-    several-laid (is-list t (yes t e p) .is) (c .if2 .left) (omega (arith, pre .roomy .room)) gathered
+    let gathered = lists-several heldStatement run _ _ _ _ (many .ensures _ _ stands)
+    (c .before .before .c .given .1) in (
+      several-laid (is-list t (yes t e p) .is) (c .if2 .left) (omega (arith, pre .roomy .room)) (gathered .0),
+      gathered .1,
+    )
 
 pub hold-several-spec : {M : Type 1} → statement M
 hold-several-spec =

@@ -45,7 +45,7 @@ returns-2 c =
     let hold = c .before .before .hold-object in
     let yes = kind-told isObject (kind .ensures) (test .ensures) (not-false (test .result)
     (c .before .before .before .before .if1 .left)) in
-    of-object (args .run .now) _ (args .at) (hold .result) t (yes t e p) (hold .ensures _ _ (object-stands p
+    of-object (args .run .now) _ (args .at) e (hold .result) t (yes t e p) (hold .ensures _ _ (object-stands p
     (yes t e p)))
 
 pub hold-statement-spec : {M : Type 1} → statement M

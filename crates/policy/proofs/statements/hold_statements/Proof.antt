@@ -1,14 +1,15 @@
 -- Each turn holds one statement behind those before it, unless one of them has its Sid, or ends the walk.
-use mathlib.Core.Path.{sym, _∙_}
+use mathlib.Core.Path.{_≡_, sym, _∙_}
 use Rattle.syntax.specs.PolicyLayout.{statementOf, sameSid}
 use Rattle.held.specs.Held.{heldStatement}
-use Rattle.parts.proofs.Laws.Formed.{holds-past, holds-wrong}
+use Rattle.parts.specs.Holding.{Laid}
+use Rattle.parts.proofs.Laws.Formed.{ends-past, ends-wrong}
 use Rattle.policy.proofs.Laws.FitsPolicy.{statement-fits}
-use Rattle.parts.proofs.Laws.Gathering.{elementLeft, next, next-holdable, next-standing, next-resting, next-few}
+use Rattle.parts.proofs.Laws.Gathering.{elementLeft, next-holdable, next-resting, next-few}
 use Rattle.parts.proofs.Laws.Gathering.{gathering-less}
 use Rattle.parts.proofs.Laws.Differ.{sameSid-symmetric}
-use Rattle.policy.proofs.Laws.Apart.{Apart, apart-start, apart-end, apart-wrong, many-lie, one-lies, apart-lying}
-use Rattle.policy.proofs.Laws.Apart.{apart-alike, apart-more}
+use Rattle.policy.proofs.Laws.Apart.{Apart, apart-start, apart-end, apart-past, after, apart-wrong, many-lie}
+use Rattle.policy.proofs.Laws.Apart.{one-lies, apart-lying, apart-size, apart-alike, apart-more}
 use borrow.Author.Needs.{needs}
 use Rattle.policy.proofs.statements.hold_statements.Statement.{statement}
 use Rattle.policy.proofs.statements.hold_statements.Tie as tie
@@ -19,6 +20,26 @@ Inv-loop s v run₀ at m₀ p₀ n₀ run m p n =
 
 abbrev μ-loop : tie.MeasureT-loop
 μ-loop s v run₀ at m₀ p₀ n₀ run m p n = elementLeft s m
+
+abbrev turn : tie.After-hold-statement Inv-loop μ-loop → tie.After-m Inv-loop μ-loop
+turn c = c .before .before .before
+
+abbrev call : tie.After-h Inv-loop μ-loop → tie.After-hold-statement Inv-loop μ-loop
+call c = c .before .before .before .before
+
+-- the statement of the turn lies in the run, and where it ends is told
+held : (c : tie.After-h Inv-loop μ-loop)
+    → (Laid heldStatement (turn (call c) .before .before .loop .run) (call c .hold-statement .last .1 .1 .0)
+    (turn (call c) .before .before .loop .p)
+    (statementOf (after (turn (call c) .before .before .loop .inv) _ (turn (call c) .m .given .1) .head))
+    (c .h .given .0 .0))
+    × (c .h .given .0 .1 .0 ≡ after (turn (call c) .before .before .loop .inv) _ (turn (call c) .m .given .1) .stop)
+held c =
+    let at-m = turn (call c) in
+    let at-loop = at-m .before .before in
+    let a = after (at-loop .loop .inv) _ (at-m .m .given .1) in
+    ends-past heldStatement (at-loop .loop .run) (call c .hold-statement .last .1 .1 .0) (at-loop .loop .p)
+    (statementOf (a .head)) (a .stop) (call c .hold-statement .ensures _ _ (a .stands)) (c .h .given .1)
 
 first-element-requires : tie.Need-first-element-requires Inv-loop μ-loop
 first-element-requires c κs =
@@ -34,142 +55,101 @@ loop-holds c =
 enum-known-m : tie.Need-enum-known-m Inv-loop μ-loop
 enum-known-m c = search needs
 
+hold-statement-requires : tie.Need-hold-statement-requires Inv-loop μ-loop
+hold-statement-requires c κs =
+    let inv = c .before .before .before .before .loop .inv in
+    next-holdable heldStatement statementOf statement-fits (inv .gathering) _ (c .before .before .m .given .1)
+
+enum-known-h : tie.Need-enum-known-h Inv-loop μ-loop
+enum-known-h c = search needs
+
 enum-told : tie.Need-enum-told Inv-loop μ-loop
 enum-told c = search needs
 
 same-length : tie.Need-same-length Inv-loop μ-loop
 same-length c =
-    let inv = c .before .before .loop .inv in
-    let g = inv .gathering in
-    g .sofar .extends .size
+    let at-call = c .before .before .before .before in
+    at-call .hold-statement .kept .1 .1 .0 ∙ turn at-call .before .before .loop .inv .gathering .sofar .extends .size
 
 returns : tie.Need-returns Inv-loop μ-loop
 returns c =
-    let inv = c .before .before .loop .inv in
-    apart-end inv _ (c .enum-told .given .1)
-
-hold-statement-requires : tie.Need-hold-statement-requires Inv-loop μ-loop
-hold-statement-requires c κs =
-    let inv = c .before .before .before .before .loop .inv in
-    let g = inv .gathering in
-    let m = c .before .before .m .given .1 in
-    next-holdable heldStatement statementOf statement-fits g _ m
-
-enum-known-h : tie.Need-enum-known-h Inv-loop μ-loop
-enum-known-h c = search needs
-
-enum-told-2 : tie.Need-enum-told-2 Inv-loop μ-loop
-enum-told-2 c = search needs
-
-same-length-2 : tie.Need-same-length-2 Inv-loop μ-loop
-same-length-2 c =
-    let inv = c .before .before .before .before .before .before .before .before .before .loop .inv in
-    let g = inv .gathering in
-    let m = c .before .before .before .before .before .before .before .m .given .1 in
-    let here = next heldStatement statementOf statement-fits g _ m in
-    let hold = c .before .before .before .before .hold-statement .ensures _ _ (here .stands) in
-    let wrongly = holds-wrong heldStatement _ _ _ _ hold (c .enum-told2 .given .1) in
-    wrongly .size ∙ g .sofar .extends .size
-
-returns-2 : tie.Need-returns-2 Inv-loop μ-loop
-returns-2 c =
-    let inv = c .before .before .before .before .before .before .before .before .before .loop .inv in
-    let g = inv .gathering in
-    let m = c .before .before .before .before .before .before .before .m .given .1 in
-    let here = next heldStatement statementOf statement-fits g _ m in
-    let hold = c .before .before .before .before .hold-statement .ensures _ _ (here .stands) in
-    let wrongly = holds-wrong heldStatement _ _ _ _ hold (c .enum-told2 .given .1) in
-    apart-wrong inv _ m wrongly
+    let at-call = c .before .before .before .before in
+    let at-m = turn at-call in
+    let at-loop = at-m .before .before in
+    let a = after (at-loop .loop .inv) _ (at-m .m .given .1) in
+    apart-wrong (at-loop .loop .inv) _ (at-m .m .given .1) (ends-wrong heldStatement (at-loop .loop .run)
+    (at-call .hold-statement .last .1 .1 .0) (at-loop .loop .p) (statementOf (a .head)) (a .stop)
+    (at-call .hold-statement .ensures _ _ (a .stands)) (c .enum-told .given .1))
 
 has-sid-requires : tie.Need-has-sid-requires Inv-loop μ-loop
 has-sid-requires c κs =
-    let inv = c .before .before .before .before .before .before .before .before .before .before .before .loop .inv in
-    let g = inv .gathering in
-    let m = c .before .before .before .before .before .before .before .before .before .m .given .1 in
-    let here = next heldStatement statementOf statement-fits g _ m in
-    let hold = c .before .before .before .before .before .before .hold-statement .ensures _ _ (here .stands) in
-    let d = holds-past heldStatement _ _ _ _ hold (c .before .before .h .given .1) in
-    apart-lying inv _ m d
+    let at-h = c .before .before in
+    let at-m = turn (call at-h) in
+    apart-lying (at-m .before .before .loop .inv) _ (at-m .m .given .1) (held at-h .0)
 
-same-length-3 : tie.Need-same-length-3 Inv-loop μ-loop
-same-length-3 c =
-    let inv = c .before .before .before .before .before .before .before .before .before .before .before .before
-    .before .loop .inv in
-    let g = inv .gathering in
-    let m = c .before .before .before .before .before .before .before .before .before .before .before .m .given .1 in
-    let here = next heldStatement statementOf statement-fits g _ m in
-    let hold = c .before .before .before .before .before .before .before .before .hold-statement .ensures _ _
-    (here .stands) in
-    let d = holds-past heldStatement _ _ _ _ hold (c .before .before .before .before .h .given .1) in
-    d .extends .size ∙ g .sofar .extends .size
+same-length-2 : tie.Need-same-length-2 Inv-loop μ-loop
+same-length-2 c =
+    let at-h = c .before .before .before .before in
+    let at-m = turn (call at-h) in
+    apart-size (at-m .before .before .loop .inv) _ (at-m .m .given .1) (held at-h .0)
 
-returns-3 : tie.Need-returns-3 Inv-loop μ-loop
-returns-3 c =
-    let inv = c .before .before .before .before .before .before .before .before .before .before .before .before
-    .before .loop .inv in
-    let g = inv .gathering in
-    let m = c .before .before .before .before .before .before .before .before .before .before .before .m .given .1 in
-    let here = next heldStatement statementOf statement-fits g _ m in
-    let hold = c .before .before .before .before .before .before .before .before .hold-statement .ensures _ _
-    (here .stands) in
-    let d = holds-past heldStatement _ _ _ _ hold (c .before .before .before .before .h .given .1) in
-    let like = sym (c .before .has-sid .ensures _ _ (g .count) (many-lie inv _ m d) (one-lies inv _ m d)) in
-    apart-alike inv _ m d (like ∙ c .if1 .taken)
+returns-2 : tie.Need-returns-2 Inv-loop μ-loop
+returns-2 c =
+    let at-h = c .before .before .before .before in
+    let at-m = turn (call at-h) in
+    let inv = at-m .before .before .loop .inv in
+    let d = held at-h .0 in
+    apart-alike inv _ (at-m .m .given .1) d
+    (sym (c .before .has-sid .ensures _ _ (inv .gathering .count) (many-lie inv _ (at-m .m .given .1) d)
+    (one-lies inv _ (at-m .m .given .1) d))
+    ∙ c .if1 .taken)
 
 add-n : tie.Need-add-n Inv-loop μ-loop
 add-n c =
-    let inv = c .before .before .before .before .before .before .before .before .before .before .before .before
-    .before .loop .inv in
-    let g = inv .gathering in
-    let m = c .before .before .before .before .before .before .before .before .before .before .before .m .given .1 in
-    let few = next-few heldStatement statementOf statement-fits g _ m in
+    let at-m = turn (call (c .before .before .before .before)) in
+    let few = next-few heldStatement statementOf statement-fits (at-m .before .before .loop .inv .gathering) _
+    (at-m .m .given .1) in
     search needs
-
-past-value-requires : tie.Need-past-value-requires Inv-loop μ-loop
-past-value-requires c κs =
-    let inv = c .before .before .before .before .before .before .before .before .before .before .before .before
-    .before .loop .inv in
-    let g = inv .gathering in
-    let m = c .before .before .before .before .before .before .before .before .before .before .before .m .given .1 in
-    next-standing heldStatement statementOf statement-fits g _ m
 
 next-element-requires : tie.Need-next-element-requires Inv-loop μ-loop
 next-element-requires c κs =
-    let inv = c .before .before .before .before .before .before .before .before .before .before .before .before
-    .before .before .loop .inv in
-    let g = inv .gathering in
-    let m = c .before .before .before .before .before .before .before .before .before .before .before .before .m
-    .given .1 in
-    let here = next heldStatement statementOf statement-fits g _ m in
-    let end = c .past-value .ensures _ _ (here .stands) in
-    next-resting heldStatement statementOf statement-fits g _ m end
+    let at-h = c .before .before .before .before in
+    let at-m = turn (call at-h) in
+    next-resting heldStatement statementOf statement-fits (at-m .before .before .loop .inv .gathering) _
+    (at-m .m .given .1) (held at-h .1)
 
 loop-less : tie.Need-loop-less Inv-loop μ-loop
 loop-less c =
-    let inv = c .before .before .before .before .before .before .before .before .before .before .before .before
-    .before .before .before .loop .inv in
-    let g = inv .gathering in
-    let m = c .before .before .before .before .before .before .before .before .before .before .before .before .before
-    .m .given .1 in
-    let here = next heldStatement statementOf statement-fits g _ m in
-    let end = c .before .past-value .ensures _ _ (here .stands) in
-    gathering-less heldStatement statementOf statement-fits g _ m _ _ end (c .next-element .ensures)
+    let at-h = c .before .before .before .before .before in
+    let at-m = turn (call at-h) in
+    gathering-less heldStatement statementOf statement-fits (at-m .before .before .loop .inv .gathering) _
+    (at-m .m .given .1) _ _ (held at-h .1) (c .next-element .ensures)
 
 loop-again : tie.Need-loop-again Inv-loop μ-loop
 loop-again c =
-    let inv = c .before .before .before .before .before .before .before .before .before .before .before .before
-    .before .before .before .loop .inv in
-    let g = inv .gathering in
-    let m = c .before .before .before .before .before .before .before .before .before .before .before .before .before
-    .m .given .1 in
-    let here = next heldStatement statementOf statement-fits g _ m in
-    let hold = c .before .before .before .before .before .before .before .before .before .before .hold-statement
-    .ensures _ _ (here .stands) in
-    let d = holds-past heldStatement _ _ _ _ hold (c .before .before .before .before .before .before .h .given .1) in
-    let end = c .before .past-value .ensures _ _ (here .stands) in
-    let like = sym (c .before .before .before .has-sid .ensures _ _ (g .count) (many-lie inv _ m d)
-    (one-lies inv _ m d)) in
-    apart-more inv _ m d (like ∙ c .before .before .if1 .left) _ _ end (c .next-element .ensures)
+    let at-h = c .before .before .before .before .before in
+    let at-m = turn (call at-h) in
+    let inv = at-m .before .before .loop .inv in
+    let d = held at-h .0 in
+    apart-more inv _ (at-m .m .given .1) d
+    (sym (c .before .before .has-sid .ensures _ _ (inv .gathering .count) (many-lie inv _ (at-m .m .given .1) d)
+    (one-lies inv _ (at-m .m .given .1) d))
+    ∙ c .before .if1 .left)
+    _ _ (held at-h .1) (c .next-element .ensures)
+
+enum-known-m-2 : tie.Need-enum-known-m-2 Inv-loop μ-loop
+enum-known-m-2 c = search needs
+
+same-length-3 : tie.Need-same-length-3 Inv-loop μ-loop
+same-length-3 c = c .before .before .before .loop .inv .gathering .sofar .extends .size
+
+returns-3 : tie.Need-returns-3 Inv-loop μ-loop
+returns-3 c =
+    let inv = c .before .before .before .loop .inv in
+    λ ts e p. (
+      apart-end inv _ (c .before .m2 .given .1) ts e p,
+      apart-past inv _ (c .before .m2 .given .1) ts e p,
+    )
 
 pub hold-statements-spec : {M : Type 1} → statement M
 hold-statements-spec =
@@ -180,19 +160,18 @@ hold-statements-spec =
     first-element-requires
     loop-holds
     enum-known-m
+    hold-statement-requires
+    enum-known-h
     enum-told
     same-length
     returns
-    hold-statement-requires
-    enum-known-h
-    enum-told-2
+    has-sid-requires
     same-length-2
     returns-2
-    has-sid-requires
-    same-length-3
-    returns-3
     add-n
-    past-value-requires
     next-element-requires
     loop-less
-    loop-again)
+    loop-again
+    enum-known-m-2
+    same-length-3
+    returns-3)

@@ -9,6 +9,7 @@ use Rattle.text.specs.Json.{Members, named, depth, depthm, levels, Space
 use Rattle.text.specs.Machine.{ws, text, move}
 use Rattle.text.specs.Reading.{Done}
 use Rattle.text.specs.Contents.{Some, Entry, Leader, Leads}
+use Rattle.text.specs.Seeking.{Quoting}
 use Rattle.text.specs.declared.walk.Member.{Member}
 use Rattle.text.specs.declared.walk.Member.the-variants as M
 use Rattle.text.proofs.Laws.Places.{done-unique}
@@ -64,6 +65,9 @@ entry-headed {s} {i} {e} {q} {ms} p d =
 
 pub entry-done : {s : List ℕ} {i e : ℕ} {ms : Members} → Entry s ms i e → Some ℕ (λ q n. Headed s ms i e q)
 entry-done p = entry-reads (p .shallow) (p .reads)
+
+pub entry-quoting : {s : List ℕ} {i e : ℕ} {ms : Members} → Entry s ms i e → Quoting s (i + 1)
+entry-quoting p = let r = entry-done p in record { stop = r .what; is = r .is .name-done }
 
 pub entry-inside : {s : List ℕ} {i e : ℕ} {ms : Members} → Entry s ms i e → i < length s
 entry-inside p = members-start (p .reads) .inside

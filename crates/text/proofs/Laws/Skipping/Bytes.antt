@@ -8,11 +8,7 @@ use Rattle.chars.specs.Base.{In}
 use Rattle.text.specs.Json.{White, tab, line-feed, carriage-return, space, Digits, no-digit, digit, Digits₁}
 use Rattle.text.specs.Json.{digits, Int, zero, from-1-9, Frac, no-frac, frac, Sign, no-sign, plus, minus, Exp}
 use Rattle.text.specs.Json.{no-exp, upper, lower, Number, unsigned, negative}
-use Rattle.text.specs.Skipping.{level}
-
-pub record Plain (b : ℕ) : Type 0 where
-  pub keeps : (n : ℕ) → level b n ≡ n
-  pub no-quote : b ≡ 34 → ⊥
+use Rattle.text.specs.Skipping.{level, Plain}
 
 pub level-other : (b n : ℕ) → (b ≡ 91 → ⊥) → (b ≡ 123 → ⊥) → (b ≡ 93 → ⊥) → (b ≡ 125 → ⊥) → level b n ≡ n
 unfolding level

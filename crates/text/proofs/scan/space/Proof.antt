@@ -8,9 +8,10 @@ use borrow.Author.Tests.{not-true, not-false}
 use Rattle.text.specs.Reading.{Leads}
 use Rattle.text.specs.Machine.{ws, optional}
 use borrow.Author.Needs.{needs}
+use Rattle.text.proofs.Laws.Reading.{seq, takes, passes, skips}
+use Rattle.text.proofs.Laws.Plain.{blank-more}
 use Rattle.text.proofs.scan.space.Statement.{statement}
 use Rattle.text.proofs.scan.space.Tie as tie
-use Rattle.text.proofs.Laws.Reading.{stay, seq, takes, passes, skips}
 
 abbrev Inv-loop : tie.InvT-loop
 Inv-loop s at i₀ i = Leads s (ws ∷ []) at (ws ∷ []) i
@@ -18,8 +19,9 @@ Inv-loop s at i₀ i = Leads s (ws ∷ []) at (ws ∷ []) i
 abbrev μ-loop : tie.MeasureT-loop
 μ-loop s at i₀ i = length s - i
 
-loop-holds : tie.Need-loop-holds Inv-loop μ-loop
-loop-holds c = stay _ _ _ (c .before .pre)
+returns : tie.Need-returns Inv-loop μ-loop
+unfolding optional
+returns c = skips ws [] (omega (arith, c .before .before .pre)) refl
 
 shared-slice-read-blank : tie.Need-shared-slice-read-blank Inv-loop μ-loop
 shared-slice-read-blank c = search needs
@@ -27,11 +29,34 @@ shared-slice-read-blank c = search needs
 blank-requires : tie.Need-blank-requires Inv-loop μ-loop
 blank-requires c κs = search needs
 
-returns : tie.Need-returns Inv-loop μ-loop
-returns c =
+returns-2 : tie.Need-returns-2 Inv-loop μ-loop
+returns-2 c =
+    let left = c .before .before .before .if1 .left in
+    passes ws [] (omega (arith, left)) (c .before .blank .ensures .is-not (not-true _ (c .if2 .taken)))
+
+add-spaces : tie.Need-add-spaces Inv-loop μ-loop
+add-spaces c = search needs
+
+spaces-requires : tie.Need-spaces-requires Inv-loop μ-loop
+spaces-requires c κs = search needs
+
+loop-holds : tie.Need-loop-holds Inv-loop μ-loop
+loop-holds c =
+    let left = c .before .before .before .before .if1 .left in
+    let is = c .before .before .blank .ensures .is (not-false _ (c .before .if2 .left)) in
+    seq (takes ws [] (ws ∷ []) (omega (arith, left)) is) (c .spaces .ensures)
+
+shared-slice-read-blank-2 : tie.Need-shared-slice-read-blank-2 Inv-loop μ-loop
+shared-slice-read-blank-2 c = search needs
+
+blank-requires-2 : tie.Need-blank-requires-2 Inv-loop μ-loop
+blank-requires-2 c κs = search needs
+
+returns-3 : tie.Need-returns-3 Inv-loop μ-loop
+returns-3 c =
     let loop = c .before .before .before .before .loop in
     let test = c .before .before .before .loop-test in
-    seq (loop .inv) (passes ws [] (test .taken) (c .before .blank .ensures .is-not (not-true _ (c .if1 .taken))))
+    seq (loop .inv) (passes ws [] (test .taken) (c .before .blank2 .ensures .is-not (not-true _ (c .if3 .taken))))
 
 add-i : tie.Need-add-i Inv-loop μ-loop
 add-i c = search needs
@@ -43,11 +68,11 @@ loop-again : tie.Need-loop-again Inv-loop μ-loop
 loop-again c =
     let loop = c .before .before .before .before .loop in
     let test = c .before .before .before .loop-test in
-    seq (loop .inv) (takes ws [] (ws ∷ []) (test .taken) (c .before .blank .ensures .is (not-false _ (c .if1 .left))))
+    blank-more (loop .inv) (test .taken) (c .before .blank2 .ensures .is (not-false _ (c .if3 .left)))
 
-returns-2 : tie.Need-returns-2 Inv-loop μ-loop
+returns-4 : tie.Need-returns-4 Inv-loop μ-loop
 unfolding optional
-returns-2 c = seq (c .before .loop .inv) (skips ws [] (omega arith) refl)
+returns-4 c = seq (c .before .loop .inv) (skips ws [] (omega arith) refl)
 
 pub space-spec : {M : Type 1} → statement M
 space-spec =
@@ -55,11 +80,17 @@ space-spec =
     (tie.spec
     Inv-loop
     μ-loop
-    loop-holds
+    returns
     shared-slice-read-blank
     blank-requires
-    returns
+    returns-2
+    add-spaces
+    spaces-requires
+    loop-holds
+    shared-slice-read-blank-2
+    blank-requires-2
+    returns-3
     add-i
     loop-less
     loop-again
-    returns-2)
+    returns-4)

@@ -3,7 +3,7 @@ use Prim.Native.Nat.{_-_}
 use native.Mathlib.Omega.{arith}
 use lib.ListN.{length}
 use Rattle.text.proofs.Laws.Skipping.Walking.{Held, stepping, closed, held-first, held-steps, held-counts}
-use Rattle.text.proofs.Laws.Skipping.Walking.{held-later, held-again}
+use Rattle.text.proofs.Laws.Skipping.Walking.{held-waits, held-idles, held-later, held-again}
 use borrow.Author.Needs.{needs}
 use Rattle.text.proofs.walk.past_closed.Statement.{statement}
 use Rattle.text.proofs.walk.past_closed.Tie as tie
@@ -20,28 +20,37 @@ add-i c = let h = stepping (omega arith) (c .before .pre .closes) .inside in sea
 loop-holds : tie.Need-loop-holds Inv-loop μ-loop
 loop-holds c = held-first _ _
 
+past-idle-requires : tie.Need-past-idle-requires Inv-loop μ-loop
+past-idle-requires c κs = held-waits (c .before .loop .inv) (c .loop-test .taken) (c .before .before .before .pre)
+
 open-past-requires : tie.Need-open-past-requires Inv-loop μ-loop
-open-past-requires c κs = held-counts (c .before .loop .inv) (c .loop-test .taken) (c .before .before .before .pre)
+open-past-requires c κs =
+    let some = c .before .loop-test .taken in
+    held-counts (held-idles (c .before .before .loop .inv) some (c .past-idle .ensures)) some
+    (c .before .before .before .before .pre)
 
 past-one-requires : tie.Need-past-one-requires Inv-loop μ-loop
 past-one-requires c κs =
-    let loop = c .before .before .loop in
-    held-steps (loop .inv) (c .before .loop-test .taken) (c .before .before .before .before .pre)
+    let some = c .before .before .loop-test .taken in
+    held-steps (held-idles (c .before .before .before .loop .inv) some (c .before .past-idle .ensures)) some
+    (c .before .before .before .before .before .pre)
 
 loop-less : tie.Need-loop-less Inv-loop μ-loop
 loop-less c =
-    let loop = c .before .before .before .loop in
-    let test = c .before .before .loop-test in
-    let pre = c .before .before .before .before .before .pre in
-    let later = held-later (loop .inv) (test .taken) pre _ (c .past-one .ensures) in
-    let inside = held-steps (loop .inv) (test .taken) pre .inside in omega arith
+    let some = c .before .before .before .loop-test .taken in
+    let pre = c .before .before .before .before .before .before .pre in
+    let idles = c .before .before .past-idle .ensures in
+    let held = held-idles (c .before .before .before .before .loop .inv) some idles in
+    let later = held-later held some pre _ (c .past-one .ensures) in
+    let inside = held-steps held some pre .inside in
+    omega (arith, idles .low)
 
 loop-again : tie.Need-loop-again Inv-loop μ-loop
 loop-again c =
-    let loop = c .before .before .before .loop in
-    let test = c .before .before .loop-test in
-    let pre = c .before .before .before .before .before .pre in
-    held-again (loop .inv) (test .taken) pre _ _ (c .before .open-past .ensures) (c .past-one .ensures)
+    let some = c .before .before .before .loop-test .taken in
+    let pre = c .before .before .before .before .before .before .pre in
+    let held = held-idles (c .before .before .before .before .loop .inv) some (c .before .before .past-idle .ensures) in
+    held-again held some pre _ _ (c .before .open-past .ensures) (c .past-one .ensures)
 
 returns : tie.Need-returns Inv-loop μ-loop
 returns c = λ e p. closed (c .before .loop .inv .goes e p) (let h = c .loop-test .left in omega arith)
@@ -54,6 +63,7 @@ past-closed-spec =
     μ-loop
     add-i
     loop-holds
+    past-idle-requires
     open-past-requires
     past-one-requires
     loop-less

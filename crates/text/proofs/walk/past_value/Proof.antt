@@ -1,5 +1,6 @@
--- A list or an object is closed where it ends.
-use Rattle.text.proofs.Laws.Contents.{stands-inside}
+-- A list or an object is closed where it ends, a string at its quote.
+use native.Mathlib.Omega.{arith}
+use Rattle.text.proofs.Laws.Contents.{stands-inside, opened-done}
 use Rattle.text.proofs.Laws.Skipping.{list-closes, object-closes}
 use Rattle.text.proofs.walk.past_value.Statement.{statement}
 use Rattle.text.proofs.walk.past_value.Tie as tie
@@ -17,6 +18,14 @@ past-closed-requires-2 c κs =
     let pre = c .before .before .before .pre in
     record { stop = pre .stop; closes = object-closes (c .match .keys2) (pre .is) }
 
+add-past-quote : tie.Need-add-past-quote
+add-past-quote c = let h = stands-inside (c .before .before .before .pre .is) in omega arith
+
+past-quote-requires : tie.Need-past-quote-requires
+past-quote-requires c κs =
+    let pre = c .before .before .before .pre in
+    record { stop = pre .stop; is = opened-done (c .match .keys3) (pre .is) }
+
 past-leaf-requires : tie.Need-past-leaf-requires
 past-leaf-requires c κs = c .before .before .before .pre
 
@@ -27,7 +36,10 @@ returns-2 : tie.Need-returns-2
 returns-2 c = λ t e p. c .past-closed2 .ensures e (object-closes (c .before .match .keys2) p)
 
 returns-3 : tie.Need-returns-3
-returns-3 c = c .past-leaf .ensures
+returns-3 c = λ t e p. c .past-quote .ensures e (opened-done (c .before .match .keys3) p)
+
+returns-4 : tie.Need-returns-4
+returns-4 c = c .past-leaf .ensures
 
 pub past-value-spec : {M : Type 1} → statement M
 past-value-spec =
@@ -36,7 +48,10 @@ past-value-spec =
     shared-slice-read-b
     past-closed-requires
     past-closed-requires-2
+    add-past-quote
+    past-quote-requires
     past-leaf-requires
     returns
     returns-2
-    returns-3)
+    returns-3
+    returns-4)

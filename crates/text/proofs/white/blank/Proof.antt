@@ -1,7 +1,7 @@
 -- The four bytes of white space.
 use Rattle.text.proofs.Laws.Plain.{blank-is, blank-not}
-use Rattle.text.proofs.scan.blank.Statement.{statement}
-use Rattle.text.proofs.scan.blank.Tie as tie
+use Rattle.text.proofs.white.blank.Statement.{statement}
+use Rattle.text.proofs.white.blank.Tie as tie
 
 returns : tie.Need-returns
 returns c = record { is = blank-is _; is-not = blank-not _ }

@@ -5,20 +5,20 @@ use Prim.Native.Nat.{ℕ, _≤_, _-_, _+_}
 use native.Mathlib.Omega.{arith}
 use lib.ListN.{length, drop}
 use Rattle.candidates.specs.Rows.{isZero}
-use Rattle.candidates.proofs.Laws.Rows.{eight-next}
+use Rattle.candidates.proofs.Laws.Rows.{block-next}
 use borrow.Author.Needs.{needs}
-use Rattle.candidates.proofs.rows.eight_zeros.Statement.{statement}
-use Rattle.candidates.proofs.rows.eight_zeros.Tie as tie
-use Rattle.candidates.proofs.rows.eight_zeros.Reads as reads
-use Rattle.candidates.proofs.rows.eight_zeros.Lts as lts
+use Rattle.candidates.proofs.rows.block_zeros.Statement.{statement}
+use Rattle.candidates.proofs.rows.block_zeros.Tie as tie
+use Rattle.candidates.proofs.rows.block_zeros.Reads as reads
+use Rattle.candidates.proofs.rows.block_zeros.Lts as lts
 
 abbrev Inv-loop : tie.InvT-loop
 Inv-loop row at zero₀ j₀ zero j =
-    (j ≤ 8) × (zero ≡ true → isZero (drop (at + j) row) ≡ isZero (drop at row))
+    (j ≤ 32) × (zero ≡ true → isZero (drop (at + j) row) ≡ isZero (drop at row))
 
 abbrev μ-loop : tie.MeasureT-loop
 μ-loop row at zero₀ j₀ zero j =
-    8 - j
+    32 - j
 
 loop-holds : tie.Need-loop-holds Inv-loop μ-loop
 loop-holds c =
@@ -44,17 +44,17 @@ loop-again : tie.Need-loop-again Inv-loop μ-loop
 loop-again c =
     let at-loop = c .before .before in
     let start = at-loop .before in
-    (omega arith, λ e. eight-next (start .args .row .now) (start .args .at) (at-loop .loop .j) (at-loop .loop .zero) (at-loop .loop .inv .1) (omega arith) e)
+    (omega arith, λ e. block-next (start .args .row .now) (start .args .at) (at-loop .loop .j) (at-loop .loop .zero) (at-loop .loop .inv .1) (omega arith) e)
 
 returns : tie.Need-returns Inv-loop μ-loop
 returns c =
     let at-loop = c .before in
     let start = at-loop .before in
-    let full : 8 ≡ at-loop .loop .j = omega arith in
+    let full : 32 ≡ at-loop .loop .j = omega arith in
     λ e. ap (λ (n : ℕ). isZero (drop (start .args .at + n) (start .args .row .now))) full ∙ at-loop .loop .inv .1 e
 
-pub eight-zeros-spec : {M : Type 1} → statement M
-eight-zeros-spec =
+pub block-zeros-spec : {M : Type 1} → statement M
+block-zeros-spec =
     tie.close
     (tie.spec
     Inv-loop
