@@ -8,7 +8,7 @@
 use mathlib.Core.Path.{_≡_}
 use mathlib.Core.Bool.{Bool, true, false}
 use mathlib.Core.List.{List, [], _∷_}
-use Prim.Native.Nat.{ℕ, _+_, _≤_}
+use Prim.Native.Nat.{ℕ, _+_, _≤_, _<_}
 use lib.Dec.{eqb, ltb}
 use lib.ListN.{length, getD}
 use Rattle.chars.specs.Base.{pick}
@@ -92,3 +92,9 @@ pub record Inside (e t : List ℕ) (at : Place) : Type 0 where
   pub entry : at .symbol ≤ length e
   pub text : at .character ≤ length t
   pub trial : at .tried ≤ length t
+
+-- the first n symbols are no stars, and the text's own first characters
+pub record Alike (e t : List ℕ) (n : ℕ) : Type 0 where
+  pub entry : n ≤ length e
+  pub text : n ≤ length t
+  pub same : (k : ℕ) → k < n → (getD e k 0 ≡ getD t k 0) × (getD e k 0 ≡ star → ⊥)

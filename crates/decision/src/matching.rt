@@ -2,7 +2,7 @@
 // a match where an earlier one takes more, the last begins later, and begun here it can take what lies between as well.
 ghost use mathlib.Core.Path.{_≡_};
 ghost use Prim.Native.Nat.{_+_, _<_, _^_};
-ghost use Rattle.decision.specs.Matching.{stands, matches, retry, next, Inside};
+ghost use Rattle.decision.specs.Matching.{stands, matches, retry, next, Inside, Alike};
 use syntax::forms;
 
 // A symbol of the entry and a character of the text to be looked at, both by their places, the ends among them; the
@@ -85,12 +85,35 @@ pub fn step(entry: &[u32], text: &[u32], at: Place) -> Move
     })
 }
 
+// How many symbols at the beginning are no stars and the text's own characters: most of what is looked at, and needs no
+// memory of a star.
+fn alike(entry: &[u32], text: &[u32]) -> usize
+    ensures { λ r. ⌜ Alike (now (entry .entry)) (now (text .entry)) r ⌝ }
+{
+    let mut i = 0usize;
+    while i < entry.len() {
+        if i == text.len() {
+            return i;
+        }
+        let x = entry[i];
+        if x != text[i] {
+            return i;
+        }
+        if x == forms::STAR {
+            return i;
+        }
+        i += 1;
+    }
+    i
+}
+
 pub fn matches(entry: &[u32], text: &[u32]) -> bool
     ensures { λ r. ⌜ r ≡ matches (now (entry .entry)) (now (text .entry)) ⌝ }
 {
+    let same = alike(entry, text);
     let mut at = Place {
-        symbol: 0,
-        character: 0,
+        symbol: same,
+        character: same,
         behind: 0,
         tried: 0,
     };

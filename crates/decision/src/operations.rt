@@ -1,7 +1,9 @@
 // The operations over bytes.
+ghost use Rattle.syntax.specs.Limits.{policyBytes};
 ghost use Rattle.syntax.specs.Policy.{Policy};
 ghost use Rattle.held.specs.Held.{held};
 ghost use Rattle.held.specs.Lying.{Lies, Lying};
+ghost use Rattle.policy.specs.Reading.{Lent};
 ghost use Rattle.decision.specs.Operations.{Decides, RecordDecides, toldAnswer};
 use crate::deciding;
 use crate::deciding::Decision;
@@ -28,13 +30,25 @@ fn decide_record(policy: &[u32], asked: &[u8]) -> Answer
     }
 }
 
+// Decide, with a run lent for the policy.
+fn decide_lent(policy: &[u8], asked: &[u8], run: &mut [u32]) -> Answer
+    requires { ⌜ Lent policyBytes 0 (now policy) (now run) ⌝ }
+    ensures { λ r. ⌜ Decides (now (policy .entry)) (now (asked .entry)) (toldAnswer r) ⌝ }
+{
+    let h = reading::read_policy(policy, run);
+    match h {
+        Read::Held(_) => decide_record(run, asked),
+        Read::Refused(f) => Answer::Refused(f),
+    }
+}
+
 pub fn decide(policy: &[u8], asked: &[u8]) -> Answer
     ensures { λ r. ⌜ Decides (now (policy .entry)) (now (asked .entry)) (toldAnswer r) ⌝ }
 {
-    let mut run = [0u32; 16384];
-    let h = reading::read_policy(policy, &mut run);
-    match h {
-        Read::Held(_) => decide_record(&run, asked),
-        Read::Refused(f) => Answer::Refused(f),
+    if policy.len() <= reading::SHORT {
+        let mut run = [0u32; 4096];
+        return decide_lent(policy, asked, &mut run);
     }
+    let mut run = [0u32; 16384];
+    decide_lent(policy, asked, &mut run)
 }

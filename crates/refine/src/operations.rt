@@ -1,9 +1,11 @@
 // The operations on rooms, over bytes and numbers.
 ghost use mathlib.Core.Path.{_≡_};
 ghost use mathlib.Core.Bool.{true};
+ghost use Rattle.syntax.specs.Limits.{policyBytes};
 ghost use Rattle.syntax.specs.Policy.{Policy, Request};
 ghost use Rattle.held.specs.Held.{held, heldRequest};
 ghost use Rattle.held.specs.Lying.{Lies, Lying};
+ghost use Rattle.policy.specs.Reading.{Lent};
 ghost use Rattle.decision.specs.Decision.{decide};
 ghost use Rattle.decision.specs.Operations as deciding;
 ghost use Rattle.writing.specs.Operations as writing;
@@ -95,18 +97,35 @@ fn feed_held(run: &[u32], asked: &[u8], room: &mut [u32]) -> decision::operation
     feed_record(run, asked, &mut request, room)
 }
 
+// Feed, with a run lent for the policy.
+fn feed_lent(
+    policy: &[u8],
+    asked: &[u8],
+    room: &mut [u32],
+    run: &mut [u32],
+) -> decision::operations::Answer
+    requires { ⌜ (Lent policyBytes 0 (now policy) (now run)) × (isRoom (now room) ≡ true) ⌝ }
+    ensures { λ r. ⌜ Feeds (now (policy .entry)) (now (asked .entry)) (now (room .entry)) (deciding.toldAnswer r) (now (room .exit)) ⌝ }
+{
+    let h = reading::read_policy(policy, run);
+    match h {
+        Read::Held(_) => feed_held(run, asked, room),
+        Read::Refused(f) => decision::operations::Answer::Refused(f),
+    }
+}
+
 pub fn feed(policy: &[u8], asked: &[u8], room: &mut [u32]) -> decision::operations::Answer
     ensures { λ r. ⌜ Feeds (now (policy .entry)) (now (asked .entry)) (now (room .entry)) (deciding.toldAnswer r) (now (room .exit)) ⌝ }
 {
     if room.len() != ROOM {
         return decision::operations::Answer::Refused(Refusal::RoomLength);
     }
-    let mut run = [0u32; 16384];
-    let h = reading::read_policy(policy, &mut run);
-    match h {
-        Read::Held(_) => feed_held(&run, asked, room),
-        Read::Refused(f) => decision::operations::Answer::Refused(f),
+    if policy.len() <= reading::SHORT {
+        let mut run = [0u32; 4096];
+        return feed_lent(policy, asked, room, &mut run);
     }
+    let mut run = [0u32; 16384];
+    feed_lent(policy, asked, room, &mut run)
 }
 
 // Join, under a held policy.
@@ -126,6 +145,18 @@ fn join_held(run: &[u32], room: &mut [u32], other: &[u32]) -> Answer
     Answer::Done
 }
 
+// Join, with a run lent for the policy.
+fn join_lent(policy: &[u8], room: &mut [u32], other: &[u32], run: &mut [u32]) -> Answer
+    requires { ⌜ (Lent policyBytes 0 (now policy) (now run)) × (isRoom (now room) ≡ true) × (isRoom (now other) ≡ true) ⌝ }
+    ensures { λ r. ⌜ Joins (now (policy .entry)) (now (room .entry)) (now (other .entry)) (toldDone r) (now (room .exit)) ⌝ }
+{
+    let h = reading::read_policy(policy, run);
+    match h {
+        Read::Held(_) => join_held(run, room, other),
+        Read::Refused(f) => Answer::Refused(f),
+    }
+}
+
 pub fn join(policy: &[u8], room: &mut [u32], other: &[u32]) -> Answer
     ensures { λ r. ⌜ Joins (now (policy .entry)) (now (room .entry)) (now (other .entry)) (toldDone r) (now (room .exit)) ⌝ }
 {
@@ -135,12 +166,12 @@ pub fn join(policy: &[u8], room: &mut [u32], other: &[u32]) -> Answer
     if other.len() != ROOM {
         return Answer::Refused(Refusal::RoomLength);
     }
-    let mut run = [0u32; 16384];
-    let h = reading::read_policy(policy, &mut run);
-    match h {
-        Read::Held(_) => join_held(&run, room, other),
-        Read::Refused(f) => Answer::Refused(f),
+    if policy.len() <= reading::SHORT {
+        let mut run = [0u32; 4096];
+        return join_lent(policy, room, other, &mut run);
     }
+    let mut run = [0u32; 16384];
+    join_lent(policy, room, other, &mut run)
 }
 
 // Finish, under a held policy: 10, or the refined policy handed out.
@@ -159,18 +190,35 @@ pub fn finish_held(run: &[u32], room: &[u32], out: &mut [u8]) -> writing::operat
     writing::operations::deliver(&bytes, n, out)
 }
 
+// Finish, with a run lent for the policy.
+fn finish_lent(
+    policy: &[u8],
+    room: &[u32],
+    out: &mut [u8],
+    run: &mut [u32],
+) -> writing::operations::Answer
+    requires { ⌜ (Lent policyBytes 0 (now policy) (now run)) × (isRoom (now room) ≡ true) ⌝ }
+    ensures { λ r. ⌜ Finishes (now (policy .entry)) (now (room .entry)) (now (out .entry)) (writing.toldAnswer r) (now (out .exit)) ⌝ }
+{
+    let h = reading::read_policy(policy, run);
+    match h {
+        Read::Held(_) => finish_held(run, room, out),
+        Read::Refused(f) => writing::operations::Answer::Refused(f),
+    }
+}
+
 pub fn finish(policy: &[u8], room: &[u32], out: &mut [u8]) -> writing::operations::Answer
     ensures { λ r. ⌜ Finishes (now (policy .entry)) (now (room .entry)) (now (out .entry)) (writing.toldAnswer r) (now (out .exit)) ⌝ }
 {
     if room.len() != ROOM {
         return writing::operations::Answer::Refused(Refusal::RoomLength);
     }
-    let mut run = [0u32; 16384];
-    let h = reading::read_policy(policy, &mut run);
-    match h {
-        Read::Held(_) => finish_held(&run, room, out),
-        Read::Refused(f) => writing::operations::Answer::Refused(f),
+    if policy.len() <= reading::SHORT {
+        let mut run = [0u32; 4096];
+        return finish_lent(policy, room, out, &mut run);
     }
+    let mut run = [0u32; 16384];
+    finish_lent(policy, room, out, &mut run)
 }
 
 // An empty room.

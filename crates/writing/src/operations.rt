@@ -4,10 +4,11 @@ ghost use mathlib.Core.List.{List};
 ghost use lib.ListN.{length, take};
 ghost use Prim.Native.Nat.{ℕ, _≤_};
 ghost use Rattle.chars.specs.Putting.{lay};
-ghost use Rattle.syntax.specs.Limits.{resultBytes};
+ghost use Rattle.syntax.specs.Limits.{policyBytes, resultBytes};
 ghost use Rattle.syntax.specs.Policy.{Policy};
 ghost use Rattle.held.specs.Held.{held};
 ghost use Rattle.held.specs.Lying.{Lies, Lying};
+ghost use Rattle.policy.specs.Reading.{Lent};
 ghost use Rattle.writing.specs.Showing.{Shows};
 ghost use Rattle.writing.specs.WrittenForm.{writtenPolicy};
 ghost use Rattle.writing.specs.Operations.{Restates, handed, toldAnswer};
@@ -60,13 +61,25 @@ pub fn hand(run: &[u32], out: &mut [u8]) -> Answer
     deliver(&room, n, out)
 }
 
+// Restate, with a run lent for the policy.
+fn restate_lent(policy: &[u8], out: &mut [u8], run: &mut [u32]) -> Answer
+    requires { ⌜ Lent policyBytes 0 (now policy) (now run) ⌝ }
+    ensures { λ r. ⌜ Restates (now (policy .entry)) (now (out .entry)) (toldAnswer r) (now (out .exit)) ⌝ }
+{
+    let h = reading::read_policy(policy, run);
+    match h {
+        Read::Held(_) => hand(run, out),
+        Read::Refused(f) => Answer::Refused(f),
+    }
+}
+
 pub fn restate(policy: &[u8], out: &mut [u8]) -> Answer
     ensures { λ r. ⌜ Restates (now (policy .entry)) (now (out .entry)) (toldAnswer r) (now (out .exit)) ⌝ }
 {
-    let mut run = [0u32; 16384];
-    let h = reading::read_policy(policy, &mut run);
-    match h {
-        Read::Held(_) => hand(&run, out),
-        Read::Refused(f) => Answer::Refused(f),
+    if policy.len() <= reading::SHORT {
+        let mut run = [0u32; 4096];
+        return restate_lent(policy, out, &mut run);
     }
+    let mut run = [0u32; 16384];
+    restate_lent(policy, out, &mut run)
 }

@@ -1,9 +1,11 @@
 -- What the tests of specs/Base come to, from facts about the numbers.
-use mathlib.Core.Path.{_≡_, refl}
+use mathlib.Core.Path.{_≡_, refl, subst}
 use mathlib.Core.Bool.{Bool, true, false, _||_, _&&_}
 use mathlib.Core.Logic.{inl, inr}
 use mathlib.Core.List.{List, [], _∷_}
-use Prim.Native.Nat.{ℕ, _≤_, _<_}
+use Prim.Native.Nat.{ℕ, _+_, _≤_, _<_}
+use native.Mathlib.Omega.{arith}
+use native.Mathlib.Decide.{decLt}
 use lib.Dec.{eqb, leb}
 use borrow.Author.Tests.{le-leb, lt-leb, eq-eqb, ne-eqb}
 use types.Run.{OneOf}
@@ -48,3 +50,11 @@ neither false u h = (refl, h)
 pub each-true : (t u : Bool) → (t && u) ≡ true → (t ≡ true) × (u ≡ true)
 each-true true u h = (refl, h)
 each-true false u h = let z : _≡_ {A = Bool} false true = h in (z, cc)
+
+-- what holds before a number, and at it
+pub each-before : (P : ℕ → Type 0) {j : ℕ} → ((k : ℕ) → k < j → P k) → P j → (k : ℕ) → k < j + 1 → P k
+each-before P {j} f p k h = by (decLt k j)
+  where
+    by : Dec (k < j) → P k
+    by (yes g) = f k g
+    by (no g) = let e : j ≡ k = omega arith in subst P e p

@@ -1,22 +1,23 @@
 -- The order of trying comes to the answer of the test: a look that goes on keeps what is known and leaves less to do.
-use mathlib.Core.Path.{_≡_, refl, sym}
+use mathlib.Core.Path.{_≡_, refl, sym, subst}
 use mathlib.Core.Bool.{Bool, true, false}
 use mathlib.Core.List.{List}
-use Prim.Native.Nat.{ℕ, _≤_, _<_}
+use Prim.Native.Nat.{ℕ, zero, suc, _+_, _≤_, _<_}
 use native.Mathlib.Decide.{decLt}
 use native.Mathlib.Omega.{arith}
 use lib.Dec.{eqb, ltb}
 use lib.ListN.{length, getD}
-use borrow.Author.Tests.{eqb-true, eqb-false, lt-ltb, le-ltb}
+use borrow.Author.Tests.{eqb-true, eqb-false, eq-eqb, lt-ltb, le-ltb}
 use Rattle.chars.specs.Base.{pick}
 use Rattle.decision.specs.declared.matching.Place.{Place}
 use Rattle.decision.specs.declared.matching.Move.{Move}
 use Rattle.decision.specs.declared.matching.Move.the-variants.{Go, Stop}
-use Rattle.syntax.specs.Policy.{star}
-use Rattle.decision.specs.Matching.{Matches, stands, matches, retry, atEnd, atSymbol, next}
+use Rattle.syntax.specs.Policy.{star, any}
+use Rattle.syntax.specs.Forms.{either}
+use Rattle.decision.specs.Matching.{Matches, stands, matches, retry, atEnd, atSymbol, next, Alike}
 use Rattle.parts.proofs.Laws.Slots.{true-false}
 use Rattle.decision.proofs.Laws.Matching.{matches-complete, matches-not}
-use Rattle.decision.proofs.Laws.MatchingPlaces.{From, Tracks, left, tracks-star, left-star, tracks-both}
+use Rattle.decision.proofs.Laws.MatchingPlaces.{From, Tracks, left, tracks-start, tracks-star, left-star, tracks-both}
 use Rattle.decision.proofs.Laws.MatchingPlaces.{left-both}
 use Rattle.decision.proofs.Laws.MatchingPlaces.{other-missed, short, ends-both, ends-star, end-missed}
 use Rattle.decision.proofs.Laws.MatchingPlaces.{none-left, tracks-again, left-again}
@@ -101,3 +102,29 @@ module _ (e t : List ℕ) (at : Place) (w : Tracks e t at) where
     where
       of : {found : Bool} → Turn e t at (Stop found) → found ≡ matches e t
       of (stops r) = r
+
+-- ---- a beginning in common
+
+stands-same : (x c : ℕ) → x ≡ c → stands x c ≡ true
+stands-same x c h = rw (eq-eqb x c h) (always (eqb x any))
+  where
+    always : (b : Bool) → either b true ≡ true
+    always true = refl
+    always false = refl
+
+abbrev both-at : ℕ → Place
+both-at n = record { symbol = n; character = n; behind = 0; tried = 0 }
+
+pub tracks-alike : (e t : List ℕ) (n : ℕ) → Alike e t n → Tracks e t (both-at n)
+tracks-alike e t zero a = tracks-start e t
+tracks-alike e t (suc n) a =
+    let before : Alike e t n = record {
+      entry = omega (arith, a .entry);
+      text = omega (arith, a .text);
+      same = λ k h. a .same k (omega arith);
+    } in
+    let z : n + 1 ≡ suc n = omega arith in
+    let last = a .same n (omega arith) in
+    subst (λ (k : ℕ). Tracks e t (both-at k)) z
+    (tracks-both e t (both-at n) (tracks-alike e t n before) (omega (arith, a .entry)) (last .1) (omega (arith, a .text))
+    (stands-same _ _ (last .0)))

@@ -146,13 +146,6 @@ plain-byte b h =
     let t = each-true (ltb b 128) (not (eqb b 92)) h in
     record { ascii = ltb-true b 128 (t .0); no-escape = eqb-false b 92 (not-true (eqb b 92) (t .1)) }
 
-pub each-before : (P : ℕ → Type 0) {j : ℕ} → ((k : ℕ) → k < j → P k) → P j → (k : ℕ) → k < j + 1 → P k
-each-before P {j} f p k h = by (decLt k j)
-  where
-    by : Dec (k < j) → P k
-    by (yes g) = f k g
-    by (no g) = let e : j ≡ k = omega arith in subst P e p
-
 pub moves-none : {w run : List ℕ} {i n : ℕ} → i ≤ length w → Moves w run run i n i
 moves-none {w} {run} {i} {n} h =
     let z : n ≡ n + (i - i) = omega arith in

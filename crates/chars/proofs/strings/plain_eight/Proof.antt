@@ -5,8 +5,7 @@ use Prim.Native.Nat.{ℕ, _≤_, _<_, _-_, _+_}
 use native.Mathlib.Omega.{arith}
 use lib.ListN.{getD}
 use Rattle.chars.specs.Steps.{Plain}
-use Rattle.chars.proofs.Laws.Tests.{each-true}
-use Rattle.chars.proofs.Laws.Strings.Runs.{each-before}
+use Rattle.chars.proofs.Laws.Tests.{each-true, each-before}
 use borrow.Author.Needs.{needs}
 use Rattle.chars.proofs.strings.plain_eight.Statement.{statement}
 use Rattle.chars.proofs.strings.plain_eight.Tie as tie

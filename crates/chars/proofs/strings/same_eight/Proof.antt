@@ -6,8 +6,7 @@ use native.Mathlib.Omega.{arith}
 use lib.ListN.{getD}
 use borrow.Author.Tests.{eqb-true}
 use Rattle.chars.specs.Steps.{Plain}
-use Rattle.chars.proofs.Laws.Tests.{each-true}
-use Rattle.chars.proofs.Laws.Strings.Runs.{each-before}
+use Rattle.chars.proofs.Laws.Tests.{each-true, each-before}
 use borrow.Author.Needs.{needs}
 use Rattle.chars.proofs.strings.same_eight.Statement.{statement}
 use Rattle.chars.proofs.strings.same_eight.Tie as tie

@@ -1,87 +1,49 @@
--- 1; the policy's refusals; or what it comes to under the policy that was read.
+-- 1; or what it comes to with a run as long as the policy needs.
 use native.Mathlib.Omega.{arith}
 use lib.ListN.{length}
 use borrow.Author.Tests.{eq-eqb, ne-eqb}
-use Rattle.held.specs.Held.{held}
-use Rattle.policy.specs.Reading.{policyRules}
-use Rattle.decision.proofs.Laws.Operations.{answers-held, answers-refused, knows-lies}
-use Rattle.refine.specs.Operations.{roomNumbers, no-room, no-policy}
-use Rattle.refine.proofs.Laws.Held.{sound-read, finishes-behind}
+use Rattle.refine.specs.Operations.{roomNumbers, no-room}
 use borrow.Author.Needs.{needs}
 use Rattle.refine.proofs.operations.finish.Statement.{statement}
 use Rattle.refine.proofs.operations.finish.Tie as tie
-use Rattle.refine.proofs.operations.finish.Reads as reads
-use Rattle.refine.proofs.operations.finish.Lts as lts
-use Rattle.policy.proofs.reading.read_policy.Reads as read-policy-reads
-use Rattle.refine.proofs.operations.finish_held.Reads as finish-held-reads
 
 returns : tie.Need-returns
-returns c =
-    let start = c .before .before .before .before in
-    no-room (ne-eqb (length (start .args .room .now)) roomNumbers (c .if1 .taken))
+returns c = no-room (ne-eqb (length (c .before .before .before .before .args .room .now)) roomNumbers (c .if1 .taken))
 
-slice-aggregate-read-policy : tie.Need-slice-aggregate-read-policy
-slice-aggregate-read-policy c = search needs
+slice-aggregate-finish-lent : tie.Need-slice-aggregate-finish-lent
+slice-aggregate-finish-lent c = search needs
 
-read-policy-requires : tie.Need-read-policy-requires
-read-policy-requires c κs = search needs
-
-enum-told : tie.Need-enum-told
-enum-told c = search needs
-
-slice-aggregate-finish-held : tie.Need-slice-aggregate-finish-held
-slice-aggregate-finish-held c = search needs
-
-finish-held-requires : tie.Need-finish-held-requires
-finish-held-requires c κs =
-    let at-read-policy = c .before .before .before .before .before in
-    let at-if1 = at-read-policy .before .before in
-    let start = at-if1 .before .before .before .before in
-    let known = answers-held policyRules held _ _ (at-read-policy .read-policy .ensures) (c .before .before .enum-told
-    .given .1) in
-    let lies = knows-lies policyRules held _ _ (omega arith) known in
-    let size = eq-eqb (length (start .args .room .now)) roomNumbers (at-if1 .if1 .left) in
-    (record { policy = known .thing; lies = lies; sound = sound-read (known .says) }, size)
-
-enum-known-h : tie.Need-enum-known-h
-enum-known-h c = search needs
+finish-lent-requires : tie.Need-finish-lent-requires
+finish-lent-requires c κs = (record { enough = λ h. omega (arith, c .before .before .if2 .taken); bounded = omega arith }, eq-eqb (length (c .before .before .before .before .before .before .before .args .room .now)) roomNumbers (c .before .before .before .if1 .left))
 
 same-length : tie.Need-same-length
 same-length c = search needs
 
 returns-2 : tie.Need-returns-2
-returns-2 c =
-    let at-enum-told = c .before .before .before .before .before in
-    let at-read-policy = at-enum-told .before .before .before in
-    let at-if1 = at-read-policy .before .before in
-    let start = at-if1 .before .before .before .before in
-    let known = answers-held policyRules held _ _ (at-read-policy .read-policy .ensures) (at-enum-told .enum-told
-    .given .1) in
-    let size = eq-eqb (length (start .args .room .now)) roomNumbers (at-if1 .if1 .left) in
-    let lies = knows-lies policyRules held _ _ (omega arith) known in
-    finishes-behind (known .says) size (c .before .before .finish-held .ensures (known .thing) lies (sound-read (known
-    .says)))
+returns-2 c = c .before .before .before .finish-lent .ensures
+
+slice-aggregate-finish-lent-2 : tie.Need-slice-aggregate-finish-lent-2
+slice-aggregate-finish-lent-2 c = search needs
+
+finish-lent-requires-2 : tie.Need-finish-lent-requires-2
+finish-lent-requires-2 c κs = (record { enough = λ h. omega (arith, h); bounded = omega arith }, eq-eqb (length (c .before .before .before .before .before .before .before .args .room .now)) roomNumbers (c .before .before .before .if1 .left))
+
+same-length-2 : tie.Need-same-length-2
+same-length-2 c = search needs
 
 returns-3 : tie.Need-returns-3
-returns-3 c =
-    let at-read-policy = c .before .before .before .before in
-    let at-if1 = at-read-policy .before .before in
-    let start = at-if1 .before .before .before .before in
-    let size = eq-eqb (length (start .args .room .now)) roomNumbers (at-if1 .if1 .left) in
-    no-policy size (answers-refused policyRules held _ _ (at-read-policy .read-policy .ensures) (c .before .h .given
-    .1))
+returns-3 c = c .before .before .before .finish-lent2 .ensures
 
 pub finish-spec : {M : Type 1} → statement M
 finish-spec =
     tie.close
     (tie.spec
     returns
-    slice-aggregate-read-policy
-    read-policy-requires
-    enum-told
-    slice-aggregate-finish-held
-    finish-held-requires
-    enum-known-h
+    slice-aggregate-finish-lent
+    finish-lent-requires
     same-length
     returns-2
+    slice-aggregate-finish-lent-2
+    finish-lent-requires-2
+    same-length-2
     returns-3)

@@ -5,8 +5,7 @@ use Prim.Native.Nat.{ℕ, _≤_, _<_, _-_}
 use native.Mathlib.Omega.{arith}
 use lib.ListN.{length, getD}
 use borrow.Author.Tests.{eqb-false}
-use Rattle.chars.proofs.Laws.Tests.{neither}
-use Rattle.chars.proofs.Laws.Strings.Runs.{each-before}
+use Rattle.chars.proofs.Laws.Tests.{neither, each-before}
 use borrow.Author.Needs.{needs}
 use Rattle.syntax.proofs.symbols.has_dollar.Statement.{statement}
 use Rattle.syntax.proofs.symbols.has_dollar.Tie as tie
