@@ -1,5 +1,8 @@
 // A run of bytes that takes what is written as far as it goes, and says whether it was too much.
+ghost use mathlib.Core.Path.{_≡_};
+ghost use mathlib.Core.Bool.{true};
 ghost use mathlib.Core.List.{[], _∷_};
+ghost use Prim.Native.Nat.{_≤_};
 ghost use Rattle.chars.specs.Written.{written, writtenText};
 ghost use Rattle.writing.specs.Showing.{Adds};
 ghost use Rattle.writing.specs.Bytes.{between};
@@ -18,10 +21,20 @@ pub fn put(out: &mut [u8], at: usize, b: u8) -> usize
     at + 1
 }
 
+// Is it written as itself? Without branches, as nearly every character is.
+fn is_bare(c: u32) -> bool
+    ensures { λ r. ⌜ (r ≡ true → (c ≤ 126) × (written c ≡ c ∷ [])) ⌝ }
+{
+    (31 < c) & (c < 127) & (c != 34) & (c != 92)
+}
+
 // A character in its written form.
 pub fn put_char(out: &mut [u8], at: usize, c: u32) -> usize
     ensures { λ r. ⌜ Adds (written c) (now (out .entry)) at r (now (out .exit)) ⌝ }
 {
+    if is_bare(c) {
+        return put(out, at, c as u8);
+    }
     let next = chars::written::put_char(out, at, c);
     if next == at {
         return OVER;

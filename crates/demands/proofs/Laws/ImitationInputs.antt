@@ -40,7 +40,7 @@ use Rattle.candidates.specs.Entries.{wildcards, isScalar, legalText, legalBegin
 use Rattle.candidates.specs.Rows.{rowNumbers, padded, row, contentOf}
 use Rattle.rooms.specs.Rooms.{rowSlots, statementSlots, slots, rowHits, statementHits, statementCharges, allowedCharges}
 use Rattle.rooms.specs.Rooms.{charges, fed, met}
-use Rattle.rooms.proofs.Laws.Empty.{zeros}
+use Rattle.candidates.proofs.Laws.Rows.{zeros}
 use Rattle.refined.specs.Finishing.{kept, keptRows, allSome, keptStatement, refinedPolicy}
 use Rattle.demands.specs.Trials.{bucket, s3Get, getObject}
 use Rattle.demands.specs.Imitations.{s3All, wide, guarded, capped, starred, wideText, guardedText, cappedText}

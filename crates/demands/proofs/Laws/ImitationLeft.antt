@@ -9,7 +9,8 @@ use lib.ListN.{getD}
 use Rattle.candidates.specs.Candidates.{Candidate, itself, single, under, upTo, holds}
 use Rattle.candidates.specs.Rows.{rowNumbers, padded, row, contentOf}
 use Rattle.rooms.specs.Rooms.{slots, charges, fed}
-use Rattle.rooms.proofs.Laws.Empty.{zeros, zeros-parted}
+use Rattle.candidates.proofs.Laws.Rows.{zeros}
+use Rattle.rooms.proofs.Laws.Empty.{zeros-parted}
 use Rattle.refine.specs.Operations.{roomNumbers}
 use Rattle.demands.specs.Logs.{emptyRoom}
 use Rattle.rooms.specs.Rooms.{rowAt}

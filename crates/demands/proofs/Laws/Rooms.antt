@@ -23,7 +23,8 @@ use Rattle.rooms.specs.Rooms.{foundAt, rowAt}
 use Rattle.demands.specs.Charges.{At, here, there}
 use Rattle.demands.proofs.Laws.Rows.{RowHolds, empty-holds, And, row-fed, row-met, row-same, row-alike}
 use Rattle.rooms.proofs.Laws.HandlingRows.{zero-first}
-use Rattle.rooms.proofs.Laws.Empty.{zeros, zeros-zero, zeros-parted, empty-row}
+use Rattle.candidates.proofs.Laws.Rows.{zeros}
+use Rattle.rooms.proofs.Laws.Empty.{zeros-zero, zeros-parted, empty-row}
 
 -- the values charged to each slot, by its number
 abbrev pub Charging : Type 1

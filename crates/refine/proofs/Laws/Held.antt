@@ -35,7 +35,8 @@ use Rattle.refine.specs.Sound.{Sound, ShortRequest, HeldSound, Holding, 
 use Rattle.refine.specs.Sound as S
 use Rattle.rooms.proofs.Laws.ListingStatement.{policy-slots-many}
 use Rattle.rooms.proofs.Laws.Fed.{fed-fits}
-use Rattle.rooms.proofs.Laws.Empty.{zeros, zeros-fit}
+use Rattle.candidates.proofs.Laws.Rows.{zeros}
+use Rattle.rooms.proofs.Laws.Empty.{zeros-fit}
 use Rattle.refine.proofs.Laws.Charged.{request-short, none-right, charges-right}
 
 -- ---- what was read

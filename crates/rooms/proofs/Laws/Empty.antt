@@ -5,12 +5,13 @@ use mathlib.Core.List.{List, [], _∷_, _++_}
 use Prim.Native.Nat.{ℕ, zero, suc, _+_, _-_, _*_, _≤_}
 use native.Mathlib.Omega.{arith}
 use native.Mathlib.Nat.{zero-add, suc-add}
-use lib.ListN.{length, replicate}
+use lib.ListN.{length}
 use Rattle.chars.specs.Base.{pick}
 use Rattle.syntax.specs.Policy.{Effect, Allow, Deny}
 use Rattle.decision.specs.Decision.{sameEffect}
 use Rattle.candidates.specs.Candidates.{empty}
 use Rattle.candidates.specs.Rows.{rowNumbers, padded, row, isRow, isZero}
+use Rattle.candidates.proofs.Laws.Rows.{zeros}
 use Rattle.rooms.specs.Rooms.{Slot, slotKind, rowFits, fits}
 use Rattle.rooms.proofs.Laws.Fed.{made-fits, before-fits}
 
@@ -29,9 +30,6 @@ empty-fits s = by (s .effect) refl
     by Allow e = made-fits s empty e refl empty-size
     by Deny e =
         ap (λ (f : Effect). pick (sameEffect f Allow) (isRow (slotKind s) (row empty)) (isZero (row empty))) e ∙ empty-zero
-
-abbrev pub zeros : ℕ → List ℕ
-zeros n = replicate n 0
 
 pub zeros-zero : (n : ℕ) → isZero (zeros n) ≡ true
 unfolding isZero

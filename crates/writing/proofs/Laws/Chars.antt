@@ -1,14 +1,16 @@
 -- What is added at one place: a character, a comma, an escape.
 use mathlib.Core.Path.{_≡_, refl, sym, ap, _∙_, subst}
-use mathlib.Core.Bool.{Bool, true, false}
+use mathlib.Core.Bool.{Bool, true, false, not, _&&_}
 use mathlib.Core.List.{List, [], _∷_, _++_}
 use Prim.Native.Nat.{ℕ, zero, suc, _+_, _≤_, _<_}
 use native.Mathlib.Omega.{arith}
 use lib.Dec.{eqb, leb, ltb}
 use lib.ListN.{length, length-append}
-use borrow.Author.Tests.{eq-eqb, ne-eqb}
+use borrow.Author.Tests.{eq-eqb, ne-eqb, ltb-true, eqb-false, not-true}
 use Rattle.chars.specs.Base.{pick, oneOf}
 use Rattle.chars.specs.Written.{coded, written}
+use Rattle.chars.proofs.Laws.Tests.{each-true}
+use Rattle.chars.proofs.Laws.Written.Forms.{written-bare}
 use Rattle.writing.specs.WrittenForm.{isEscaped}
 use Rattle.writing.specs.Showing.{Adds}
 use Rattle.writing.specs.Bytes.{between}
@@ -36,6 +38,20 @@ written-some c =
     (pick-some (ltb c 32) _ _ (coded-one c)
     (pick-some (leb c 126) _ _ (omega arith)
     (pick-some (leb c 65535) _ _ (coded-one c) (coded-some _ _)))))
+
+-- ---- a character written as itself
+
+pub bare-written :
+    (c : ℕ) → (ltb 31 c && ltb c 127 && not (eqb c 34) && not (eqb c 92)) ≡ true → (c ≤ 126) × (written c ≡ c ∷ [])
+bare-written c h =
+    let p = each-true _ _ h in
+    let q = each-true _ _ (p .0) in
+    let r = each-true _ _ (q .0) in
+    let low = ltb-true 31 c (r .0) in
+    let high = ltb-true c 127 (r .1) in
+    let quote = eqb-false c 34 (not-true _ (q .1)) in
+    let solidus = eqb-false c 92 (not-true _ (p .1)) in
+    (omega (arith, high), written-bare c quote solidus (omega (arith, low)) (omega (arith, high)))
 
 -- ---- what is escaped
 
