@@ -3,6 +3,7 @@
 --   Holds h run run′ at x r    what x reads lies in the run as h holds it; or x is wrong
 --   Gathers h run run′ at x r  likewise for several things, with their count
 --   HoldsTo .. e r, GathersTo .. e r   likewise, and what says x ends at e
+--   pastOf r                   the answer without the end
 --   entryOf k t                the entry of a list of kind k that t is
 use mathlib.Core.Path.{_≡_}
 use mathlib.Core.Bool.{Bool, true, false}
@@ -99,6 +100,10 @@ Holds h run run′ at x H.Wrong = Left run run′ x
 abbrev pub HoldsTo : {A : Type 0} → (A → List ℕ) → List ℕ → List ℕ → ℕ → Reading A → ℕ → Ended → Type 0
 HoldsTo h run run′ at x e (N.Past p q) = (Laid h run run′ at x p) × (q ≡ e)
 HoldsTo h run run′ at x e N.Wrong = Left run run′ x
+
+abbrev pub pastOf : Ended → Held
+pastOf (N.Past p q) = H.Past p
+pastOf N.Wrong = H.Wrong
 
 abbrev pub Gathers : {A : Type 0} → (A → List ℕ) → List ℕ → List ℕ → ℕ → Reading (List A) → Counted → Type 0
 Gathers h run run′ at x (C.Several p n) = Gathered h run run′ at x p n

@@ -1,29 +1,22 @@
 -- Requests: what the functions that hold a record cite, beside the record layout.
---   soleOf t           the element of a list of exactly one
 --   Placing            a member is absent or stands at a place
 --   typeOf x           the type that a member names: 1 a text, 2 a number, 0 none
+--   TypesTo t e r      the type that t names, which ends at e
 --   typedAs k cs       the value of type k that characters say
+use mathlib.Core.Path.{_≡_}
 use mathlib.Core.List.{List}
 use Prim.Native.Nat.{ℕ}
 use lib.Dec.{eqb}
 use Rattle.chars.specs.Base.{pick}
-use Rattle.text.specs.Json.{Json, null, bool, number, string, list, object, no-more, also}
+use Rattle.text.specs.Json.{Json}
 use Rattle.syntax.specs.Policy.{Value, text}
 use Rattle.syntax.specs.Forms.{Reading, numberIn}
 use Rattle.syntax.specs.Words.{stringTypeWord, numericTypeWord}
 use Rattle.syntax.specs.Members.{Slot, none, many, one, only, isWord}
 use Rattle.parts.specs.Slots.{Placed}
 use Rattle.syntax.specs.RecordLayout.{short, asNumber}
-
-abbrev pub soleOf : Json → Slot
-soleOf null = none
-soleOf (bool b) = none
-soleOf (number w) = none
-soleOf (string w) = none
-soleOf (list no-more) = none
-soleOf (list (also t no-more)) = one t
-soleOf (list (also t (also u ts))) = none
-soleOf (object ms) = none
+use Rattle.parts.specs.declared.words.Typed.{Typed}
+use Rattle.parts.specs.declared.words.Typed.the-variants as T
 
 -- ---- members
 
@@ -40,6 +33,15 @@ abbrev pub typeOf : Slot → ℕ
 typeOf none = 0
 typeOf many = 0
 typeOf (one t) = typeNamed t
+
+pub record Names (t : Json) (e k q : ℕ) : Type 0 where
+  pub is : k ≡ typeNamed t
+  pub some : k ≡ 0 → ⊥
+  pub ends : q ≡ e
+
+abbrev pub TypesTo : Json → ℕ → Typed → Type 0
+TypesTo t e (T.Is k q) = Names t e k q
+TypesTo t e T.Wrong = typeNamed t ≡ 0
 
 abbrev pub typedAs : ℕ → List ℕ → Reading Value
 typedAs k cs = pick (eqb k 1) (only (short cs) (text cs)) (asNumber (numberIn cs))

@@ -8,10 +8,11 @@ ghost use Rattle.syntax.specs.Forms.{symbolsOf};
 ghost use Rattle.syntax.specs.PolicyLayout.{sidOf, keyOf, actionOf, resourceOf, numberOfJson};
 ghost use Rattle.held.specs.Held.{heldText, heldNumber, heldValue, heldList};
 ghost use Rattle.parts.specs.Room.{Roomy, Holdable, HoldableList};
-ghost use Rattle.parts.specs.Holding.{Holds, Gathers, Finds, entryOf};
+ghost use Rattle.parts.specs.Holding.{Holds, HoldsTo, GathersTo, Finds, entryOf};
 use crate::holding;
-use crate::holding::Counted;
+use crate::holding::Ended;
 use crate::holding::Held;
+use crate::holding::Listed;
 use crate::words::Operator;
 use syntax::forms;
 use syntax::numbers;
@@ -28,19 +29,22 @@ pub enum Entry {
     Value(Operator),
 }
 
-pub fn hold_sid(s: &[u8], v: usize, run: &mut [u32], at: usize) -> Held
+pub fn hold_sid(s: &[u8], v: usize, run: &mut [u32], at: usize) -> Ended
     requires { ⌜ Holdable (now s) v (now run) at 0 ⌝ }
-    ensures { λ r. ⌜ ((t : Json) (e : ℕ) → Stands (now (s .entry)) t v e → Holds heldText (now (run .entry)) (now (run .exit)) at (sidOf t) r) ⌝ }
+    ensures { λ r. ⌜ ((t : Json) (e : ℕ) → Stands (now (s .entry)) t v e → HoldsTo heldText (now (run .entry)) (now (run .exit)) at (sidOf t) e r) ⌝ }
 {
-    let h = holding::hold_text(s, v, run, at);
-    let Held::Past(p) = h else {
-        return Held::Wrong;
+    let h = holding::hold_string(s, v, run, at);
+    let Ended::Past { past, end } = h else {
+        return Ended::Wrong;
     };
     let first = at + 1;
-    if !forms::is_sid(&run[first..p]) {
-        return Held::Wrong;
+    if !forms::is_sid(&run[first..past]) {
+        return Ended::Wrong;
     }
-    Held::Past(p)
+    Ended::Past {
+        past: past,
+        end: end,
+    }
 }
 
 // A condition key, from its raw name.
@@ -60,53 +64,62 @@ pub fn hold_key(raw: &[u8], run: &mut [u32], at: usize) -> Held
 }
 
 // An Action entry, its wildcards apart from every character.
-fn hold_action(s: &[u8], v: usize, run: &mut [u32], at: usize) -> Held
+fn hold_action(s: &[u8], v: usize, run: &mut [u32], at: usize) -> Ended
     requires { ⌜ Holdable (now s) v (now run) at 0 ⌝ }
-    ensures { λ r. ⌜ ((t : Json) (e : ℕ) → Stands (now (s .entry)) t v e → Holds heldText (now (run .entry)) (now (run .exit)) at (actionOf t) r) ⌝ }
+    ensures { λ r. ⌜ ((t : Json) (e : ℕ) → Stands (now (s .entry)) t v e → HoldsTo heldText (now (run .entry)) (now (run .exit)) at (actionOf t) e r) ⌝ }
 {
-    let h = holding::hold_text(s, v, run, at);
-    let Held::Past(p) = h else {
-        return Held::Wrong;
+    let h = holding::hold_string(s, v, run, at);
+    let Ended::Past { past, end } = h else {
+        return Ended::Wrong;
     };
     let first = at + 1;
-    if !forms::is_action(&run[first..p]) {
-        return Held::Wrong;
+    if !forms::is_action(&run[first..past]) {
+        return Ended::Wrong;
     }
-    symbols::wildcards(&mut run[first..p]);
-    Held::Past(p)
+    symbols::wildcards(&mut run[first..past]);
+    Ended::Past {
+        past: past,
+        end: end,
+    }
 }
 
 // A text with its escapes resolved, its wildcards apart where there are some.
-fn hold_symbols(s: &[u8], v: usize, run: &mut [u32], at: usize, wild: bool) -> Held
+fn hold_symbols(s: &[u8], v: usize, run: &mut [u32], at: usize, wild: bool) -> Ended
     requires { ⌜ Holdable (now s) v (now run) at 0 ⌝ }
-    ensures { λ r. ⌜ ((t : Json) (e : ℕ) → Stands (now (s .entry)) t v e → Holds heldText (now (run .entry)) (now (run .exit)) at (then (charactersOf t) (symbolsOf wild)) r) ⌝ }
+    ensures { λ r. ⌜ ((t : Json) (e : ℕ) → Stands (now (s .entry)) t v e → HoldsTo heldText (now (run .entry)) (now (run .exit)) at (then (charactersOf t) (symbolsOf wild)) e r) ⌝ }
 {
-    let h = holding::hold_text(s, v, run, at);
-    let Held::Past(p) = h else {
-        return Held::Wrong;
+    let h = holding::hold_string(s, v, run, at);
+    let Ended::Past { past, end } = h else {
+        return Ended::Wrong;
     };
     let first = at + 1;
-    let c = symbols::symbols(&mut run[first..p], wild);
+    let c = symbols::symbols(&mut run[first..past], wild);
     let Converted::Count(n) = c else {
-        return Held::Wrong;
+        return Ended::Wrong;
     };
     run[at] = n as u32;
-    Held::Past(first + n)
+    Ended::Past {
+        past: first + n,
+        end: end,
+    }
 }
 
-fn hold_resource(s: &[u8], v: usize, run: &mut [u32], at: usize) -> Held
+fn hold_resource(s: &[u8], v: usize, run: &mut [u32], at: usize) -> Ended
     requires { ⌜ Holdable (now s) v (now run) at 0 ⌝ }
-    ensures { λ r. ⌜ ((t : Json) (e : ℕ) → Stands (now (s .entry)) t v e → Holds heldText (now (run .entry)) (now (run .exit)) at (resourceOf t) r) ⌝ }
+    ensures { λ r. ⌜ ((t : Json) (e : ℕ) → Stands (now (s .entry)) t v e → HoldsTo heldText (now (run .entry)) (now (run .exit)) at (resourceOf t) e r) ⌝ }
 {
     let h = hold_symbols(s, v, run, at, true);
-    let Held::Past(p) = h else {
-        return Held::Wrong;
+    let Ended::Past { past, end } = h else {
+        return Ended::Wrong;
     };
     let first = at + 1;
-    if !forms::is_resource(&run[first..p]) {
-        return Held::Wrong;
+    if !forms::is_resource(&run[first..past]) {
+        return Ended::Wrong;
     }
-    Held::Past(p)
+    Ended::Past {
+        past: past,
+        end: end,
+    }
 }
 
 // The number that stands at a place, as a JSON number or a string; its characters may be written behind a place.
@@ -126,20 +139,24 @@ fn number_at(s: &[u8], v: usize, run: &mut [u32], at: usize) -> Number
     numbers::number_in(&run[first..p])
 }
 
-fn hold_number(s: &[u8], v: usize, run: &mut [u32], at: usize) -> Held
+fn hold_number(s: &[u8], v: usize, run: &mut [u32], at: usize) -> Ended
     requires { ⌜ Holdable (now s) v (now run) at 0 ⌝ }
-    ensures { λ r. ⌜ ((t : Json) (e : ℕ) → Stands (now (s .entry)) t v e → Holds heldNumber (now (run .entry)) (now (run .exit)) at (numberOfJson t) r) ⌝ }
+    ensures { λ r. ⌜ ((t : Json) (e : ℕ) → Stands (now (s .entry)) t v e → HoldsTo heldNumber (now (run .entry)) (now (run .exit)) at (numberOfJson t) e r) ⌝ }
 {
     let k = number_at(s, v, run, at);
     let Number::Is(n) = k else {
-        return Held::Wrong;
+        return Ended::Wrong;
     };
-    Held::Past(holding::put_number(run, at, n))
+    let p = holding::put_number(run, at, n);
+    Ended::Past {
+        past: p,
+        end: walk::past_value(s, v),
+    }
 }
 
-fn hold_value(s: &[u8], v: usize, run: &mut [u32], at: usize, o: Operator) -> Held
+fn hold_value(s: &[u8], v: usize, run: &mut [u32], at: usize, o: Operator) -> Ended
     requires { ⌜ Holdable (now s) v (now run) at 0 ⌝ }
-    ensures { λ r. ⌜ ((t : Json) (e : ℕ) → Stands (now (s .entry)) t v e → Holds heldValue (now (run .entry)) (now (run .exit)) at (entryOf (Entry.Value o) t) r) ⌝ }
+    ensures { λ r. ⌜ ((t : Json) (e : ℕ) → Stands (now (s .entry)) t v e → HoldsTo heldValue (now (run .entry)) (now (run .exit)) at (entryOf (Entry.Value o) t) e r) ⌝ }
 {
     match o {
         Operator::StringEquals => hold_symbols(s, v, run, at, false),
@@ -148,9 +165,9 @@ fn hold_value(s: &[u8], v: usize, run: &mut [u32], at: usize, o: Operator) -> He
     }
 }
 
-fn hold_entry(s: &[u8], v: usize, run: &mut [u32], at: usize, k: Entry) -> Held
+fn hold_entry(s: &[u8], v: usize, run: &mut [u32], at: usize, k: Entry) -> Ended
     requires { ⌜ Holdable (now s) v (now run) at 0 ⌝ }
-    ensures { λ r. ⌜ ((t : Json) (e : ℕ) → Stands (now (s .entry)) t v e → Holds heldValue (now (run .entry)) (now (run .exit)) at (entryOf k t) r) ⌝ }
+    ensures { λ r. ⌜ ((t : Json) (e : ℕ) → Stands (now (s .entry)) t v e → HoldsTo heldValue (now (run .entry)) (now (run .exit)) at (entryOf k t) e r) ⌝ }
 {
     match k {
         Entry::Action => hold_action(s, v, run, at),
@@ -160,49 +177,62 @@ fn hold_entry(s: &[u8], v: usize, run: &mut [u32], at: usize, k: Entry) -> Held
 }
 
 // The entries of the list that stands at a place.
-fn hold_list(s: &[u8], v: usize, run: &mut [u32], at: usize, k: Entry) -> Counted
+fn hold_list(s: &[u8], v: usize, run: &mut [u32], at: usize, k: Entry) -> Listed
     requires { ⌜ HoldableList (now s) v (now run) at ⌝ }
-    ensures { λ r. ⌜ ((ts : Values) (e : ℕ) → Stands (now (s .entry)) (list ts) v e → Gathers heldValue (now (run .entry)) (now (run .exit)) at (each (entryOf k) ts) r) ⌝ }
+    ensures { λ r. ⌜ ((ts : Values) (e : ℕ) → Stands (now (s .entry)) (list ts) v e → GathersTo heldValue (now (run .entry)) (now (run .exit)) at (each (entryOf k) ts) e r) ⌝ }
 {
     let mut m = walk::first_element(s, v);
     let mut p = at;
     let mut n = 0usize;
     loop {
-        let Element::At(i) = m else {
-            return Counted::Several { past: p, count: n };
-        };
-        let h = hold_entry(s, i, run, p, k);
-        let Held::Past(q) = h else {
-            return Counted::Wrong;
-        };
-        p = q;
-        n = n + 1;
-        let e = walk::past_value(s, i);
-        m = walk::next_element(s, e);
+        match m {
+            Element::At(i) => {
+                let h = hold_entry(s, i, run, p, k);
+                let Ended::Past { past, end } = h else {
+                    return Listed::Wrong;
+                };
+                p = past;
+                n = n + 1;
+                m = walk::next_element(s, end);
+            }
+            Element::Past(e) => {
+                return Listed::Several {
+                    past: p,
+                    end: e,
+                    count: n,
+                };
+            }
+        }
     }
 }
 
 // One entry or a list of at least one, behind their number.
-pub fn hold_entries(s: &[u8], v: usize, run: &mut [u32], at: usize, k: Entry) -> Held
+pub fn hold_entries(s: &[u8], v: usize, run: &mut [u32], at: usize, k: Entry) -> Ended
     requires { ⌜ Holdable (now s) v (now run) at 1 ⌝ }
-    ensures { λ r. ⌜ ((t : Json) (e : ℕ) → Stands (now (s .entry)) t v e → Holds (heldList heldValue) (now (run .entry)) (now (run .exit)) at (oneOrMore (entryOf k) t) r) ⌝ }
+    ensures { λ r. ⌜ ((t : Json) (e : ℕ) → Stands (now (s .entry)) t v e → HoldsTo (heldList heldValue) (now (run .entry)) (now (run .exit)) at (oneOrMore (entryOf k) t) e r) ⌝ }
 {
     let first = at + 1;
     if !holding::is_list(walk::kind_at(s, v)) {
         let h = hold_entry(s, v, run, first, k);
-        let Held::Past(p) = h else {
-            return Held::Wrong;
+        let Ended::Past { past, end } = h else {
+            return Ended::Wrong;
         };
         run[at] = 1;
-        return Held::Past(p);
+        return Ended::Past {
+            past: past,
+            end: end,
+        };
     }
     let c = hold_list(s, v, run, first, k);
-    let Counted::Several { past, count } = c else {
-        return Held::Wrong;
+    let Listed::Several { past, end, count } = c else {
+        return Ended::Wrong;
     };
     if count == 0 {
-        return Held::Wrong;
+        return Ended::Wrong;
     }
     run[at] = count as u32;
-    Held::Past(past)
+    Ended::Past {
+        past: past,
+        end: end,
+    }
 }

@@ -8,7 +8,7 @@ ghost use Rattle.syntax.specs.Members.{characters, charactersOf};
 ghost use Rattle.syntax.specs.Limits.{greatest};
 ghost use Rattle.held.specs.Held.{heldText, heldNumber};
 ghost use Rattle.parts.specs.Room.{Roomy, Holdable};
-ghost use Rattle.parts.specs.Holding.{isText, isNumber, isList, isObject, Extends, Holds, HoldsTo};
+ghost use Rattle.parts.specs.Holding.{isText, isNumber, isList, isObject, Extends, Holds, HoldsTo, pastOf};
 use chars::strings::Decoded;
 use held::limits;
 use text::walk::Kind;
@@ -94,6 +94,16 @@ pub fn is_object(k: Kind) -> bool
         Kind::Text => false,
         Kind::List => false,
         Kind::Object => true,
+    }
+}
+
+// The same without its end in the text.
+pub fn past_of(h: Ended) -> Held
+    ensures { λ r. ⌜ r ≡ pastOf h ⌝ }
+{
+    match h {
+        Ended::Past { past, end: _ } => Held::Past(past),
+        Ended::Wrong => Held::Wrong,
     }
 }
 

@@ -2,5 +2,6 @@
 pub mod entries;
 pub mod holding;
 pub mod members;
+pub mod order;
 pub mod sole;
 pub mod words;

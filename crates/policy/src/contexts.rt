@@ -1,33 +1,38 @@
 // The context entries of a record, held as numbers in a lent run one behind the other.
 ghost use mathlib.Core.Path.{_≡_};
 ghost use mathlib.Core.List.{List, []};
-ghost use Prim.Native.Nat.{ℕ, _+_, _≤_};
+ghost use Prim.Native.Nat.{ℕ, _+_};
 ghost use lib.ListN.{length};
 ghost use Rattle.text.specs.Json.{Json, Values, list};
 ghost use Rattle.text.specs.Contents.{Stands};
 ghost use Rattle.syntax.specs.Policy.{Context};
 ghost use Rattle.syntax.specs.Members.{Slot, then, charactersOf, required, optional, each, hasLike, differing};
 ghost use Rattle.syntax.specs.RecordLayout.{onlyOne, isKeyName, keyNameOf, contextOf, sameContext, contextsOf};
-ghost use Rattle.held.specs.Held.{heldText, heldNumber, heldValue, heldEach, heldList, heldContext};
+ghost use Rattle.held.specs.Held.{heldText, heldValue, heldEach, heldList, heldContext};
 ghost use Rattle.parts.specs.Slots.{Placed};
-ghost use Rattle.parts.specs.Room.{Roomy, Holdable, HoldableList, HoldableSlot};
+ghost use Rattle.parts.specs.Room.{Holdable, HoldableList, HoldableSlot};
 ghost use Rattle.held.specs.Lying.{Lies, Lying, LyingMany};
-ghost use Rattle.parts.specs.Holding.{Extends, Holds, HoldsTo, Gathers};
+ghost use Rattle.parts.specs.Holding.{Holds, HoldsTo, GathersTo};
+ghost use Rattle.parts.specs.Ordered.{OrdersTo};
 ghost use Rattle.parts.specs.Requests.{Placing, typeOf, typedAs};
 use held::limits;
 use parts::holding;
-use parts::holding::Counted;
 use parts::holding::Ended;
 use parts::holding::Held;
+use parts::holding::Listed;
 use parts::members;
 use parts::members::Layout;
+use parts::order;
+use parts::order::Ordered;
 use parts::sole;
 use parts::words;
+use parts::words::Typed;
 use syntax::forms;
 use syntax::numbers;
 use syntax::numbers::Number;
 use text::walk;
 use text::walk::Element;
+use text::walk::Member;
 
 fn is_key_name(cs: &[u32]) -> bool
     ensures { λ r. ⌜ r ≡ isKeyName (now (cs .entry)) ⌝ }
@@ -38,6 +43,26 @@ fn is_key_name(cs: &[u32]) -> bool
     cs.len() <= limits::KEY
 }
 
+// The key name that stands at a place.
+fn hold_name(s: &[u8], v: usize, run: &mut [u32], at: usize) -> Ended
+    requires { ⌜ Holdable (now s) v (now run) at 0 ⌝ }
+    ensures { λ r. ⌜ ((t : Json) (e : ℕ) → Stands (now (s .entry)) t v e → HoldsTo heldText (now (run .entry)) (now (run .exit)) at (keyNameOf t) e r) ⌝ }
+{
+    let h = holding::hold_string(s, v, run, at);
+    let Ended::Past { past, end } = h else {
+        return Ended::Wrong;
+    };
+    let first = at + 1;
+    if !is_key_name(&run[first..past]) {
+        return Ended::Wrong;
+    }
+    Ended::Past {
+        past: past,
+        end: end,
+    }
+}
+
+// The key name of a member; a place of 0 is an absent one.
 fn hold_key_name(s: &[u8], v: usize, run: &mut [u32], at: usize) -> Held
     requires { ⌜ HoldableSlot (now s) v (now run) at 0 ⌝ }
     ensures { λ r. ⌜ ((x : Slot) → Placed (now (s .entry)) v x → Holds heldText (now (run .entry)) (now (run .exit)) at (required keyNameOf x) r) ⌝ }
@@ -45,15 +70,7 @@ fn hold_key_name(s: &[u8], v: usize, run: &mut [u32], at: usize) -> Held
     if v == 0 {
         return Held::Wrong;
     }
-    let h = holding::hold_text(s, v, run, at);
-    let Held::Past(p) = h else {
-        return Held::Wrong;
-    };
-    let first = at + 1;
-    if !is_key_name(&run[first..p]) {
-        return Held::Wrong;
-    }
-    Held::Past(p)
+    holding::past_of(hold_name(s, v, run, at))
 }
 
 // The type that a member names: 1 a text, 2 a number; 0 where it names none.
@@ -64,40 +81,55 @@ fn type_at(s: &[u8], v: usize) -> u32
     if v == 0 {
         return 0;
     }
-    if words::is_word(s, v, b"string") {
-        return 1;
+    let k = words::type_at(s, v);
+    match k {
+        Typed::Is { kind, end: _ } => kind,
+        Typed::Wrong => 0,
     }
-    if words::is_word(s, v, b"numeric") {
-        return 2;
-    }
-    0
 }
 
-// The value of a context entry, by the type that it names.
+// The value of a type that stands at a place, as a list of one string.
+fn hold_value(s: &[u8], v: usize, run: &mut [u32], at: usize, kind: u32) -> Ended
+    requires { ⌜ Holdable (now s) v (now run) at 0 ⌝ }
+    ensures { λ r. ⌜ ((t : Json) (e : ℕ) → Stands (now (s .entry)) t v e → HoldsTo heldValue (now (run .entry)) (now (run .exit)) at (then (onlyOne charactersOf t) (typedAs kind)) e r) ⌝ }
+{
+    let h = sole::hold_sole(s, v, run, at);
+    let Ended::Past { past, end } = h else {
+        return Ended::Wrong;
+    };
+    let first = at + 1;
+    if kind == 1 {
+        if limits::ENTRY < past - first {
+            return Ended::Wrong;
+        }
+        return Ended::Past {
+            past: past,
+            end: end,
+        };
+    }
+    let k = numbers::number_in(&run[first..past]);
+    let Number::Is(n) = k else {
+        return Ended::Wrong;
+    };
+    Ended::Past {
+        past: holding::put_number(run, at, n),
+        end: end,
+    }
+}
+
+// The value of a context entry, by the type that it names; a place of 0 is an absent one.
 fn hold_typed(s: &[u8], v: usize, run: &mut [u32], at: usize, kind: u32) -> Held
     requires { ⌜ HoldableSlot (now s) v (now run) at 0 ⌝ }
     ensures { λ r. ⌜ ((x : Slot) → Placed (now (s .entry)) v x → Holds heldValue (now (run .entry)) (now (run .exit)) at (then (required (onlyOne charactersOf) x) (typedAs kind)) r) ⌝ }
 {
-    let h = sole::hold_only(s, v, run, at);
-    let Held::Past(p) = h else {
+    if v == 0 {
         return Held::Wrong;
-    };
-    let first = at + 1;
-    if kind == 1 {
-        if limits::ENTRY < p - first {
-            return Held::Wrong;
-        }
-        return Held::Past(p);
     }
-    let k = numbers::number_in(&run[first..p]);
-    let Number::Is(n) = k else {
-        return Held::Wrong;
-    };
-    Held::Past(holding::put_number(run, at, n))
+    holding::past_of(hold_value(s, v, run, at, kind))
 }
 
-// A context entry: its type, its key and its value.
-fn hold_context(s: &[u8], v: usize, run: &mut [u32], at: usize) -> Ended
+// A context entry whose members may stand in any order: its type, its key and its value.
+fn hold_any_context(s: &[u8], v: usize, run: &mut [u32], at: usize) -> Ended
     requires { ⌜ Holdable (now s) v (now run) at 0 ⌝ }
     ensures { λ r. ⌜ ((t : Json) (e : ℕ) → Stands (now (s .entry)) t v e → HoldsTo heldContext (now (run .entry)) (now (run .exit)) at (contextOf t) e r) ⌝ }
 {
@@ -125,6 +157,62 @@ fn hold_context(s: &[u8], v: usize, run: &mut [u32], at: usize) -> Ended
     Ended::Past {
         past: past,
         end: end,
+    }
+}
+
+// A context entry whose members stand in the order of its layout, in one walk.
+fn hold_ordered_context(s: &[u8], v: usize, run: &mut [u32], at: usize) -> Ordered
+    requires { ⌜ Holdable (now s) v (now run) at 0 ⌝ }
+    ensures { λ r. ⌜ ((t : Json) (e : ℕ) → Stands (now (s .entry)) t v e → OrdersTo heldContext (now (run .entry)) (now (run .exit)) at (contextOf t) e r) ⌝ }
+{
+    if !holding::is_object(walk::kind_at(s, v)) {
+        return Ordered::Wrong;
+    }
+    let first = order::first_named(s, v, b"ContextKeyName");
+    if first == 0 {
+        return Ordered::Not;
+    }
+    let h = hold_name(s, first, run, at + 1);
+    let Ended::Past { past, end } = h else {
+        return Ordered::Wrong;
+    };
+    let second = order::next_named(s, end, b"ContextKeyType");
+    if second == 0 {
+        return Ordered::Not;
+    }
+    let t = words::type_at(s, second);
+    let Typed::Is { kind, end } = t else {
+        return Ordered::Wrong;
+    };
+    let third = order::next_named(s, end, b"ContextKeyValues");
+    if third == 0 {
+        return Ordered::Not;
+    }
+    run[at] = kind;
+    let g = hold_value(s, third, run, past, kind);
+    let Ended::Past { past, end } = g else {
+        return Ordered::Wrong;
+    };
+    let m = walk::next_member(s, end);
+    let Member::Past(e) = m else {
+        return Ordered::Not;
+    };
+    Ordered::Past { past: past, end: e }
+}
+
+// A context entry: in one walk if its members stand in order, else member by member.
+fn hold_context(s: &[u8], v: usize, run: &mut [u32], at: usize) -> Ended
+    requires { ⌜ Holdable (now s) v (now run) at 0 ⌝ }
+    ensures { λ r. ⌜ ((t : Json) (e : ℕ) → Stands (now (s .entry)) t v e → HoldsTo heldContext (now (run .entry)) (now (run .exit)) at (contextOf t) e r) ⌝ }
+{
+    let o = hold_ordered_context(s, v, run, at);
+    match o {
+        Ordered::Past { past, end } => Ended::Past {
+            past: past,
+            end: end,
+        },
+        Ordered::Wrong => Ended::Wrong,
+        Ordered::Not => hold_any_context(s, v, run, at),
     }
 }
 
@@ -170,27 +258,57 @@ fn has_context_key(run: &[u32], at: usize, n: usize, p: usize) -> bool
 }
 
 // The context entries of the list that stands at a place, no two of them with one key.
-fn hold_differing(s: &[u8], v: usize, run: &mut [u32], at: usize) -> Counted
+fn hold_differing(s: &[u8], v: usize, run: &mut [u32], at: usize) -> Listed
     requires { ⌜ HoldableList (now s) v (now run) at ⌝ }
-    ensures { λ r. ⌜ ((ts : Values) (e : ℕ) → Stands (now (s .entry)) (list ts) v e → Gathers heldContext (now (run .entry)) (now (run .exit)) at (then (each contextOf ts) (differing sameContext)) r) ⌝ }
+    ensures { λ r. ⌜ ((ts : Values) (e : ℕ) → Stands (now (s .entry)) (list ts) v e → GathersTo heldContext (now (run .entry)) (now (run .exit)) at (then (each contextOf ts) (differing sameContext)) e r) ⌝ }
 {
     let mut m = walk::first_element(s, v);
     let mut p = at;
     let mut n = 0usize;
     loop {
-        let Element::At(i) = m else {
-            return Counted::Several { past: p, count: n };
-        };
-        let h = hold_context(s, i, run, p);
-        let Ended::Past { past, end } = h else {
-            return Counted::Wrong;
-        };
-        if has_context_key(run, at, n, p) {
-            return Counted::Wrong;
+        match m {
+            Element::Past(e) => {
+                return Listed::Several {
+                    past: p,
+                    end: e,
+                    count: n,
+                };
+            }
+            Element::At(i) => {
+                let h = hold_context(s, i, run, p);
+                let Ended::Past { past, end } = h else {
+                    return Listed::Wrong;
+                };
+                if has_context_key(run, at, n, p) {
+                    return Listed::Wrong;
+                }
+                p = past;
+                n = n + 1;
+                m = walk::next_element(s, end);
+            }
         }
-        p = past;
-        n = n + 1;
-        m = walk::next_element(s, end);
+    }
+}
+
+// The context entries that stand at a place, behind their number.
+pub fn hold_listed(s: &[u8], v: usize, run: &mut [u32], at: usize) -> Ended
+    requires { ⌜ Holdable (now s) v (now run) at 1 ⌝ }
+    ensures { λ r. ⌜ ((t : Json) (e : ℕ) → Stands (now (s .entry)) t v e → HoldsTo (heldList heldContext) (now (run .entry)) (now (run .exit)) at (contextsOf t) e r) ⌝ }
+{
+    if !holding::is_list(walk::kind_at(s, v)) {
+        return Ended::Wrong;
+    }
+    let c = hold_differing(s, v, run, at + 1);
+    let Listed::Several { past, end, count } = c else {
+        return Ended::Wrong;
+    };
+    if limits::CONTEXTS < count {
+        return Ended::Wrong;
+    }
+    run[at] = count as u32;
+    Ended::Past {
+        past: past,
+        end: end,
     }
 }
 
@@ -203,16 +321,5 @@ pub fn hold_contexts(s: &[u8], v: usize, run: &mut [u32], at: usize) -> Held
         run[at] = 0;
         return Held::Past(at + 1);
     }
-    if !holding::is_list(walk::kind_at(s, v)) {
-        return Held::Wrong;
-    }
-    let c = hold_differing(s, v, run, at + 1);
-    let Counted::Several { past, count } = c else {
-        return Held::Wrong;
-    };
-    if limits::CONTEXTS < count {
-        return Held::Wrong;
-    }
-    run[at] = count as u32;
-    Held::Past(past)
+    holding::past_of(hold_listed(s, v, run, at))
 }

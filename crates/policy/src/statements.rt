@@ -60,7 +60,11 @@ fn hold_sid_at(s: &[u8], v: usize, run: &mut [u32], at: usize) -> Held
         run[at] = 0;
         return Held::Past(at + 1);
     }
-    entries::hold_sid(s, v, run, at)
+    let h = entries::hold_sid(s, v, run, at);
+    let Ended::Past { past, .. } = h else {
+        return Held::Wrong;
+    };
+    Held::Past(past)
 }
 
 // A condition that stands at a place, or at 0 none: no rows.
@@ -72,7 +76,11 @@ fn hold_condition_at(s: &[u8], v: usize, run: &mut [u32], at: usize) -> Held
         run[at] = 0;
         return Held::Past(at + 1);
     }
-    rows::hold_condition(s, v, run, at)
+    let h = rows::hold_condition(s, v, run, at);
+    let Ended::Past { past, .. } = h else {
+        return Held::Wrong;
+    };
+    Held::Past(past)
 }
 
 // What a statement has besides its effect, from the places of its members.
@@ -93,11 +101,11 @@ fn hold_parts(
         return Held::Wrong;
     };
     let g = entries::hold_entries(s, action, run, p, Entry::Action);
-    let Held::Past(q) = g else {
+    let Ended::Past { past: q, .. } = g else {
         return Held::Wrong;
     };
     let k = entries::hold_entries(s, resource, run, q, Entry::Resource);
-    let Held::Past(u) = k else {
+    let Ended::Past { past: u, .. } = k else {
         return Held::Wrong;
     };
     hold_condition_at(s, condition, run, u)

@@ -15,6 +15,7 @@ use Rattle.syntax.specs.Members.{cons, each}
 use Rattle.parts.specs.Room.{cost, costs, Holdable, HoldableList}
 use Rattle.parts.specs.Holding.{Laid, Left, Gathered}
 use Rattle.parts.proofs.Laws.Room.{cost-some}
+use Rattle.parts.proofs.Laws.Walking.{stands-past}
 use Rattle.parts.proofs.Laws.Sofar.{Sofar, sofar-start, sofar-roomy, sofar-end, sofar-wrong, sofar-more}
 use Rattle.parts.proofs.Laws.Sofar.{snoc-length}
 
@@ -100,6 +101,12 @@ module _ {A : Type 0} (h : A → List ℕ) (f : Json → Reading A)
           count = g .count;
           extends = g .sofar .extends;
         }
+
+    -- where the list ends
+    pub gathering-past : (q : ℕ) → m ≡ E.Past q → (ts : Values) (e : ℕ) → Stands s (list ts) v e → q ≡ e
+    gathering-past q k ts e l =
+        let c : (g .left ≡ no-more) × (q ≡ g .stop) = subst (Comes s (g .low) (g .left) (g .stop)) k (g .comes) in
+        c .1 ∙ stands-past (g .list-is) l
 
     pub end-things : (q : ℕ) (e : m ≡ E.Past q) → gathering-end q e .things ≡ g .things
     unfolding gathering-end

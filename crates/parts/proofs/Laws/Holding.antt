@@ -25,9 +25,10 @@ use Rattle.syntax.specs.Forms.{Reading, wrong, read}
 use Rattle.syntax.specs.Members.{only, characters, charactersOf}
 use Rattle.held.specs.Held.{heldText}
 use Rattle.parts.specs.Room.{Roomy, cost}
-use Rattle.parts.specs.Holding.{isText, Extends, Laid, Left, Holds}
+use Rattle.parts.specs.Holding.{isText, Extends, Laid, Left, Holds, HoldsTo}
 use Rattle.parts.specs.declared.holding.Held.{Held}
 use Rattle.parts.specs.declared.holding.Held.the-variants as H
+use Rattle.parts.specs.declared.holding.Ended.{Ended}
 use Rattle.parts.proofs.Laws.Extends.{extends-front}
 
 -- ---- strings and other values
@@ -217,6 +218,11 @@ pub holds-alike :
     {A : Type 0} (h : A → List ℕ) (run run′ : List ℕ) (at : ℕ) (r : Held) (x y : Reading A)
     → x ≡ y → Holds h run run′ at x r → Holds h run run′ at y r
 holds-alike h run run′ at r x y e f = subst (λ z. Holds h run run′ at z r) e f
+
+pub ends-alike :
+    {A : Type 0} (h : A → List ℕ) (run run′ : List ℕ) (at e : ℕ) (r : Ended) (x y : Reading A)
+    → x ≡ y → HoldsTo h run run′ at x e r → HoldsTo h run run′ at y e r
+ends-alike h run run′ at e r x y k f = subst (λ z. HoldsTo h run run′ at z e r) k f
 
 -- an answer that is known, of what is read likewise
 pub laid-string :

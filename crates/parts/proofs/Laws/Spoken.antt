@@ -11,9 +11,11 @@ use Rattle.text.specs.declared.walk.Span.{Span}
 use Rattle.syntax.specs.Policy as P
 use Rattle.syntax.specs.Forms.{Reading, wrong, read}
 use Rattle.syntax.specs.Words.{allowWord, denyWord, stringEqualsWord, stringLikeWord, numericLessThanEqualsWord}
+use Rattle.syntax.specs.Words.{stringTypeWord, numericTypeWord}
 use Rattle.syntax.specs.Members.{isWord}
 use Rattle.syntax.specs.PolicyLayout.{effectOf, operatorOf}
 use Rattle.parts.specs.Holding.{isText}
+use Rattle.parts.specs.Requests.{typeNamed}
 use Rattle.parts.proofs.Laws.Holding.{is-string, never}
 
 pub word-no : (n : List ℕ) (t : Json) → isText (kindOf t) ≡ false → isWord n t ≡ false
@@ -35,6 +37,34 @@ word-said {s} {v} {e} {t} n q p h f =
     let a = is-string t h in
     let r = f (a .raw) e (subst (λ (u : Json). Stands s u v e) (a .is) p) in
     ap (isWord n) (a .is) ∙ ap (λ (w : List ℕ). sameText (textOf w) n) (sym (r .is))
+
+-- the type that a string names
+pub type-no : (t : Json) → isText (kindOf t) ≡ false → typeNamed t ≡ 0
+type-no t e = rw (word-no stringTypeWord t e, word-no numericTypeWord t e)
+
+pub type-said :
+    {s : List ℕ} {v e : ℕ} {t : Json} (q : Span) → Stands s t v e → isText (kindOf t) ≡ true
+    → ((w : List ℕ) (f : ℕ) → Stands s (string w) v f → Raw s w f q)
+    → typeNamed t ≡ typeNamed (string (part s (q .from) (q .to)))
+type-said {s} {v} {e} {t} q p h f =
+    let a = is-string t h in
+    let r = f (a .raw) e (subst (λ (u : Json). Stands s u v e) (a .is) p) in
+    ap typeNamed (a .is) ∙ ap (λ (w : List ℕ). typeNamed (string w)) (sym (r .is))
+
+module _ (w : List ℕ) where
+  pub raw-text : sameText (textOf w) stringTypeWord ≡ true → typeNamed (string w) ≡ 1
+  unfolding isWord
+  raw-text e = rw e
+
+  pub raw-number : sameText (textOf w) stringTypeWord ≡ false → sameText (textOf w) numericTypeWord ≡ true
+      → typeNamed (string w) ≡ 2
+  unfolding isWord
+  raw-number e f = rw (e, f)
+
+  pub raw-none : sameText (textOf w) stringTypeWord ≡ false → sameText (textOf w) numericTypeWord ≡ false
+      → typeNamed (string w) ≡ 0
+  unfolding isWord
+  raw-none e f = rw (e, f)
 
 -- ---- in their turn
 

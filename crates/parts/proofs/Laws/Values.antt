@@ -11,9 +11,9 @@ use Rattle.syntax.specs.Members.{then, charactersOf}
 use Rattle.syntax.specs.PolicyLayout.{asText, asNumber, actionOf, resourceOf, numberOfJson, valueOf}
 use Rattle.held.specs.Held.{heldText, heldNumber, heldValue}
 use Rattle.parts.specs.Spoken.{operatorIs}
-use Rattle.parts.specs.Holding.{Holds, entryOf}
-use Rattle.parts.specs.declared.holding.Held.{Held}
-use Rattle.parts.specs.declared.holding.Held.the-variants.{Past, Wrong}
+use Rattle.parts.specs.Holding.{HoldsTo, entryOf}
+use Rattle.parts.specs.declared.holding.Ended.{Ended}
+use Rattle.parts.specs.declared.holding.Ended.the-variants.{Past, Wrong}
 use Rattle.parts.specs.declared.words.Operator.{Operator}
 use Rattle.parts.specs.declared.words.Operator.the-variants as O
 use Rattle.parts.specs.declared.entries.Entry.{Entry}
@@ -21,17 +21,17 @@ use Rattle.parts.specs.declared.entries.Entry.the-variants as E
 
 -- ---- held as a value
 
-pub holds-text : (run run′ : List ℕ) (at : ℕ) (x : Reading (List ℕ)) (r : Held) → Holds heldText run run′ at x r
-    → Holds heldValue run run′ at (asText x) r
-holds-text run run′ at x (Past p) h =
-    record { thing = text (h .thing); said = ap asText (h .said); extends = h .extends }
-holds-text run run′ at x Wrong h = record { size = h .size; said = ap asText (h .said) }
+pub ends-text : (run run′ : List ℕ) (at e : ℕ) (x : Reading (List ℕ)) (r : Ended)
+    → HoldsTo heldText run run′ at x e r → HoldsTo heldValue run run′ at (asText x) e r
+ends-text run run′ at e x (Past p q) h =
+    (record { thing = text (h .0 .thing); said = ap asText (h .0 .said); extends = h .0 .extends }, h .1)
+ends-text run run′ at e x Wrong h = record { size = h .size; said = ap asText (h .said) }
 
-pub holds-number : (run run′ : List ℕ) (at : ℕ) (x : Reading ℕ) (r : Held) → Holds heldNumber run run′ at x r
-    → Holds heldValue run run′ at (asNumber x) r
-holds-number run run′ at x (Past p) h =
-    record { thing = P.number (h .thing); said = ap asNumber (h .said); extends = h .extends }
-holds-number run run′ at x Wrong h = record { size = h .size; said = ap asNumber (h .said) }
+pub ends-number : (run run′ : List ℕ) (at e : ℕ) (x : Reading ℕ) (r : Ended)
+    → HoldsTo heldNumber run run′ at x e r → HoldsTo heldValue run run′ at (asNumber x) e r
+ends-number run run′ at e x (Past p q) h =
+    (record { thing = P.number (h .0 .thing); said = ap asNumber (h .0 .said); extends = h .0 .extends }, h .1)
+ends-number run run′ at e x Wrong h = record { size = h .size; said = ap asNumber (h .said) }
 
 -- ---- by the operator
 

@@ -15,7 +15,7 @@ use Rattle.syntax.specs.Forms.{Reading, read}
 use Rattle.syntax.specs.Members.{cons, members}
 use Rattle.parts.specs.Room.{cost, costm, HoldableMember, Holdable, HoldableObject}
 use Rattle.parts.specs.Holding.{Laid, Left}
-use Rattle.parts.proofs.Laws.Walking.{leftOf, left-falls}
+use Rattle.parts.proofs.Laws.Walking.{leftOf, left-falls, stands-past}
 use Rattle.parts.proofs.Laws.Sofar.{Sofar, sofar-start, sofar-roomy, sofar-end, sofar-wrong, sofar-more}
 
 -- f's things need no more room than the members that they are read from
@@ -59,6 +59,12 @@ module _ {A : Type 0} (h : A → List ℕ) (f : List ℕ → Json → Reading A)
     collecting-read q e =
         let c : (g .left ≡ no-members) × (q ≡ g .stop) = subst (Leads s (g .low) (g .left) (g .stop)) e (g .leads) in
         sofar-end h (g .sofar) (ap (members f) (c .0))
+
+    -- where the object ends
+    pub collecting-past : (q : ℕ) → m ≡ M.Past q → (ms : Members) (e : ℕ) → Stands s (object ms) v e → q ≡ e
+    collecting-past q k ms e l =
+        let c : (g .left ≡ no-members) × (q ≡ g .stop) = subst (Leads s (g .low) (g .left) (g .stop)) k (g .leads) in
+        c .1 ∙ stands-past (g .object-is) l
 
     module _ (a b i : ℕ) (q : m ≡ M.Named a b i) where
       pub next : Leader s (g .low) (g .left) (g .stop) a b i

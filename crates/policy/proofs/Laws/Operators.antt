@@ -32,7 +32,8 @@ use Rattle.parts.proofs.Laws.Differ.{differ-snoc, sameGroup-symmetric}
 use Rattle.parts.proofs.Laws.Sofar.{sofar-same, twice-wrong, apart-read}
 use Rattle.parts.proofs.Laws.Several.{each-some, row-some}
 use Rattle.policy.proofs.Laws.Collecting.{Collecting, collecting-start, whole-told, collecting-read, next}
-use Rattle.policy.proofs.Laws.Collecting.{next-cost, next-members, next-holdable, next-standing}
+use Rattle.policy.proofs.Laws.Collecting.{collecting-past}
+use Rattle.policy.proofs.Laws.Collecting.{next-cost, next-members, next-holdable}
 use Rattle.policy.proofs.Laws.Collecting.{next-continuing, next-wrong, collecting-more, collecting-less}
 use Rattle.policy.proofs.Laws.Groups.{Many, Inside, many-rows, rows-inside, heldGroup, groups-held, rows-snoc}
 use Rattle.policy.proofs.Laws.Groups.{operators-is, Seen, seen-none, seen-more}
@@ -114,15 +115,16 @@ module _ {s : List ℕ} {v at : ℕ} {run₀ run marks : List ℕ} {m : Member} 
             (g .going .sofar .extends);
       })
 
+  -- where they end
+  pub operators-past : (q : ℕ) → m ≡ M.Past q → (ms : Members) (e : ℕ) → Stands s (object ms) v e → q ≡ e
+  operators-past = collecting-past heldGroup groupOf group-fits (g .going)
+
   module _ (a b i : ℕ) (q : m ≡ M.Named a b i) where
     abbrev pub here : Leader s (g .going .low) (g .going .left) (g .going .stop) a b i
     here = next heldGroup groupOf group-fits (g .going) a b i q
 
     pub here-holdable : Holdable s i run p 0
     here-holdable = next-holdable heldGroup groupOf group-fits (g .going) a b i q
-
-    pub here-standing : Standing s i
-    here-standing = next-standing heldGroup groupOf group-fits (g .going) a b i q
 
     pub here-continuing : {e : ℕ} → e ≡ here .stop → Continuing s e
     here-continuing = next-continuing heldGroup groupOf group-fits (g .going) a b i q

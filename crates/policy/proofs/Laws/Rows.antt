@@ -27,7 +27,8 @@ use Rattle.parts.proofs.Laws.Differ.{differ-snoc, sameRow-symmetric}
 use Rattle.parts.proofs.Laws.Sofar.{snoc-length, sofar-same, twice-wrong, apart-read}
 use Rattle.held.proofs.Laws.Runs.{lies-front}
 use Rattle.policy.proofs.Laws.Collecting.{Collecting, collecting-start, whole-told, collecting-read, next}
-use Rattle.policy.proofs.Laws.Collecting.{next-cost, next-members, next-member, next-standing, next-continuing}
+use Rattle.policy.proofs.Laws.Collecting.{collecting-past}
+use Rattle.policy.proofs.Laws.Collecting.{next-cost, next-members, next-member, next-continuing}
 use Rattle.policy.proofs.Laws.Collecting.{next-wrong, collecting-more, collecting-less}
 
 -- ---- a row
@@ -114,15 +115,16 @@ module _ (o : Operator) where
           extends = g .going .sofar .extends;
         })
 
+    -- where it ends
+    pub apart-past : (q : ℕ) → m ≡ M.Past q → (ms : Members) (e : ℕ) → Stands s (object ms) v e → q ≡ e
+    apart-past = collecting-past heldRow (rowOf o) (row-fits o) (g .going)
+
     module _ (a b i : ℕ) (q : m ≡ M.Named a b i) where
       abbrev pub here : Leader s (g .going .low) (g .going .left) (g .going .stop) a b i
       here = next heldRow (rowOf o) (row-fits o) (g .going) a b i q
 
       pub here-member : HoldableMember s a b i run p
       here-member = next-member heldRow (rowOf o) (row-fits o) (g .going) a b i q
-
-      pub here-standing : Standing s i
-      here-standing = next-standing heldRow (rowOf o) (row-fits o) (g .going) a b i q
 
       pub here-continuing : {e : ℕ} → e ≡ here .stop → Continuing s e
       here-continuing = next-continuing heldRow (rowOf o) (row-fits o) (g .going) a b i q

@@ -1,6 +1,6 @@
 -- What a statement has besides its effect: members that may be absent, entries as texts, all held in turn.
 --   placed-absent, placed-there   a member's place tells whether it is there
---   absent-laid, there-holds      what is held of a member that may be absent
+--   absent-laid, there-laid ..    what is held of a member that may be absent
 --   texts-laid, texts-left        Action and Resource entries are texts
 --   parts-holds ..                one part behind the other
 use mathlib.Core.Path.{_≡_, refl, sym, ap, _∙_, subst}
@@ -17,12 +17,14 @@ use Rattle.parts.specs.Slots.{Placed, absent, stands}
 use Rattle.syntax.specs.PolicyLayout.{asText, actionOf, resourceOf, sidOf, conditionOf}
 use Rattle.held.specs.Held.{heldText, heldEach, heldList, heldValue, heldRow}
 use Rattle.parts.specs.Room.{cost, Holdable, costOf, HoldableSlot}
-use Rattle.parts.specs.Holding.{Extends, Laid, Left, Holds}
+use Rattle.parts.specs.Holding.{Extends, Laid, Left, Holds, HoldsTo}
 use Rattle.policy.specs.Statements.{partsOf, heldParts}
 use Rattle.parts.specs.declared.holding.Held.{Held}
-use Rattle.parts.specs.declared.holding.Held.the-variants.{Past, Wrong}
+use Rattle.parts.specs.declared.holding.Held.the-variants as H
+use Rattle.parts.specs.declared.holding.Ended.{Ended}
+use Rattle.parts.specs.declared.holding.Ended.the-variants.{Past, Wrong}
 use Rattle.parts.proofs.Laws.Extends.{extends-none, extends-front, extends-then}
-use Rattle.parts.proofs.Laws.Formed.{then-wrong, then-read, left-then}
+use Rattle.parts.proofs.Laws.Formed.{then-wrong, then-read, left-then, ends-past, ends-wrong}
 use Rattle.parts.proofs.Laws.Fits.{wrong-read, then-inv, one-or-more-fits, sid-fits}
 
 -- ---- a member that may be absent
@@ -64,13 +66,19 @@ module _ {A : Type 0} (h : A → List ℕ) (d : A) (f : Json → Reading A) wher
             (extends-front 0 low (extends-none run (at + 1)));
       }
 
-  pub there-holds :
-      {s : List ℕ} {v : ℕ} (run run′ : List ℕ) (at : ℕ) (r : Held) → (v ≡ 0 → ⊥)
-      → ((t : Json) (e : ℕ) → Stands s t v e → Holds h run run′ at (f t) r)
-      → (x : Slot) → Placed s v x → Holds h run run′ at (optional d f x) r
-  there-holds run run′ at r n g x p =
-      let t = placed-there p n in
-      subst (λ (y : Slot). Holds h run run′ at (optional d f y) r) (sym (t .is)) (g (t .what) (t .stop) (t .stands))
+  module _ {s : List ℕ} {v : ℕ} (run run′ : List ℕ) (at : ℕ) (r : Ended) (n : v ≡ 0 → ⊥)
+      (g : (t : Json) (e : ℕ) → Stands s t v e → HoldsTo h run run′ at (f t) e r) where
+    pub there-laid : {p q : ℕ} → r ≡ Past p q → (x : Slot) → Placed s v x → Laid h run run′ at (optional d f x) p
+    there-laid {p} k x i =
+        let t = placed-there i n in
+        subst (λ (y : Slot). Laid h run run′ at (optional d f y) p) (sym (t .is))
+        (ends-past h run run′ at (f (t .what)) (t .stop) (g (t .what) (t .stop) (t .stands)) k .0)
+
+    pub there-left : r ≡ Wrong → (x : Slot) → Placed s v x → Left run run′ (optional d f x)
+    there-left k x i =
+        let t = placed-there i n in
+        subst (λ (y : Slot). Left run run′ (optional d f y)) (sym (t .is))
+        (ends-wrong h run run′ at (f (t .what)) (t .stop) (g (t .what) (t .stop) (t .stands)) k)
 
 pub no-rows : heldList heldRow [] ≡ 0 ∷ []
 unfolding heldEach
@@ -186,13 +194,13 @@ module _ (i : Slot) (x y : Json) (c : Slot) where
             (run′ : List ℕ) (r : Held) → Holds (heldList heldRow) run₃ run′ u (optional [] conditionOf c) r
             → Holds heldParts run run′ at (partsOf i x y c) r
         unfolding partsOf heldParts
-        parts-holds run′ (Past k) l =
+        parts-holds run′ (H.Past k) l =
             record {
               thing = record { sid = a .thing; actions = b .thing; resources = d .thing; rows = l .thing };
               said = then-read _ (a .said) ∙ then-read _ (b .said) ∙ then-read _ (d .said) ∙ then-read _ (l .said);
               extends = extends-then (a .extends) (extends-then (b .extends) (extends-then (d .extends) (l .extends)));
             }
-        parts-holds run′ Wrong l =
+        parts-holds run′ H.Wrong l =
             record {
               size = l .size ∙ d .extends .size ∙ b .extends .size ∙ a .extends .size;
               said = then-read _ (a .said) ∙ then-read _ (b .said) ∙ then-read _ (d .said) ∙ then-wrong _ (l .said);

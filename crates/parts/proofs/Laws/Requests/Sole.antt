@@ -1,4 +1,5 @@
 -- Lists of exactly one, and members that may be absent: where their value stands and what it says.
+--   soleOf t   the element of a list of exactly one
 use mathlib.Core.Path.{_≡_, refl, sym, ap, _∙_, subst}
 use mathlib.Core.Bool.{true, false}
 use mathlib.Core.List.{List, [], _∷_}
@@ -12,18 +13,37 @@ use Rattle.syntax.specs.Forms.{Reading, wrong}
 use Rattle.syntax.specs.Members.{Slot, none, many, one, then, charactersOf, required, optional}
 use Rattle.syntax.specs.RecordLayout.{onlyOne, isActionName, actionNameOf, isResourceArn, resourceArnOf}
 use Rattle.syntax.specs.RecordLayout.{isKeyName, keyNameOf}
-use Rattle.parts.specs.Slots.{Placed, stands}
-use Rattle.parts.specs.Room.{cost, costs, costOf}
+use Rattle.parts.specs.Slots.{Placed}
+use Rattle.parts.specs.Room.{cost, costs}
 use Rattle.parts.specs.Holding.{isList}
-use Rattle.parts.specs.declared.holding.Held.the-variants.{Past}
-use Rattle.parts.specs.Requests.{soleOf}
 use Rattle.parts.proofs.Laws.Holding.{never}
 use Rattle.parts.proofs.Laws.Formed.{formed}
-use Rattle.parts.proofs.Laws.Requests.Members.{placed-absent, Found, placed-found}
+use Rattle.parts.proofs.Laws.Requests.Members.{placed-absent, placed-found}
 
 -- ---- a list of exactly one
 
-pub not-sole : (t : Json) → isList (kindOf t) ≡ false → soleOf t ≡ none
+abbrev pub soleOf : Json → Slot
+soleOf null = none
+soleOf (bool b) = none
+soleOf (number w) = none
+soleOf (string w) = none
+soleOf (list no-more) = none
+soleOf (list (also t no-more)) = one t
+soleOf (list (also t (also u ts))) = none
+soleOf (object ms) = none
+
+pub sole-only : {A : Type 0} (f : Json → Reading A) (t : Json) → onlyOne f t ≡ required f (soleOf t)
+unfolding onlyOne
+sole-only f null = refl
+sole-only f (bool b) = refl
+sole-only f (number w) = refl
+sole-only f (string w) = refl
+sole-only f (list no-more) = refl
+sole-only f (list (also t no-more)) = refl
+sole-only f (list (also t (also u ts))) = refl
+sole-only f (object ms) = refl
+
+not-sole : (t : Json) → isList (kindOf t) ≡ false → soleOf t ≡ none
 not-sole null e = refl
 not-sole (bool true) e = refl
 not-sole (bool false) e = refl
@@ -31,6 +51,9 @@ not-sole (number w) e = refl
 not-sole (string w) e = refl
 not-sole (list ts) e = never (sym e)
 not-sole (object ms) e = refl
+
+pub only-not : {A : Type 0} (f : Json → Reading A) (t : Json) → isList (kindOf t) ≡ false → onlyOne f t ≡ wrong
+only-not f t e = sole-only f t ∙ ap (required f) (not-sole t e)
 
 pub record AList (t : Json) : Type 0 where
   pub elements : Values
@@ -66,10 +89,10 @@ module _ {s : List ℕ} {v e : ℕ} (t : Json) (p : Stands s t v e) (l : isList 
   comes : Comes s v (listed .elements) e m
   comes = f (listed .elements) e (list-stands p listed)
 
-  pub list-empty : {q : ℕ} → m ≡ E.Past q → soleOf t ≡ none
-  list-empty z =
-      let w : (listed .elements ≡ no-more) × (_ ≡ e) = subst (Comes s v (listed .elements) e) z comes in
-      ap soleOf (listed .is ∙ ap list (w .0))
+  pub only-empty : {A : Type 0} (h : Json → Reading A) {q : ℕ} → m ≡ E.Past q → onlyOne h t ≡ wrong
+  only-empty h {q} z =
+      let w : (listed .elements ≡ no-more) × (q ≡ e) = subst (Comes s v (listed .elements) e) z comes in
+      sole-only h t ∙ ap (λ (u : Json). required h (soleOf u)) (listed .is ∙ ap list (w .0))
 
   pub list-begun : {i : ℕ} → m ≡ E.At i → Begun s t v e i
   list-begun {i} z =
@@ -84,34 +107,41 @@ module _ {s : List ℕ} {v e : ℕ} (t : Json) (p : Stands s t v e) (l : isList 
         later = w .later;
       }
 
+head-wrong : {A : Type 0} (h : Json → Reading A) (t : Json) (ts : Values) → h t ≡ wrong
+    → onlyOne h (list (also t ts)) ≡ wrong
+unfolding onlyOne
+head-wrong h t no-more e = e
+head-wrong h t (also u ts) e = refl
+
 module _ {s : List ℕ} {t : Json} {v e i : ℕ} (b : Begun s t v e i) where
   pub begun-rest : {k : ℕ} → k ≡ b .stop → Rest s (b .tail) k e
   begun-rest z = subst (λ (k : ℕ). Rest s (b .tail) k e) (sym z) (b .follows)
 
-  pub begun-more : (k : ℕ) {j : ℕ} (n : Element) → Comes s k (b .tail) e n → n ≡ E.At j → soleOf t ≡ none
-  begun-more k {j} n f z =
-      let w : First s k (b .tail) e j = subst (Comes s k (b .tail) e) z f in
-      ap soleOf (b .is ∙ ap (λ (ts : Values). list (also (b .head) ts)) (w .is))
+  pub begun-cost : cost (b .head) ≤ cost t
+  unfolding cost costs
+  begun-cost = omega (arith, ap cost (b .is))
 
-  pub begun-sole : (k : ℕ) {q : ℕ} (n : Element) → Comes s k (b .tail) e n → n ≡ E.Past q → Placed s i (soleOf t)
-  begun-sole k {q} n f z =
-      let w : (b .tail ≡ no-more) × (q ≡ e) = subst (Comes s k (b .tail) e) z f in
-      let y : soleOf t ≡ one (b .head) =
-      ap soleOf (b .is ∙ ap (λ (ts : Values). list (also (b .head) ts)) (w .0)) in
-      subst (Placed s i) (sym y) (stands (omega (arith, b .later)) (b .at))
+  module _ {A : Type 0} (h : Json → Reading A) where
+    -- wrong, whatever follows
+    pub begun-wrong : h (b .head) ≡ wrong → onlyOne h t ≡ wrong
+    begun-wrong z = ap (onlyOne h) (b .is) ∙ head-wrong h (b .head) (b .tail) z
+
+    pub begun-more : (k : ℕ) {j : ℕ} (n : Element) → Comes s k (b .tail) e n → n ≡ E.At j → onlyOne h t ≡ wrong
+    begun-more k {j} n f z =
+        let w : First s k (b .tail) e j = subst (Comes s k (b .tail) e) z f in
+        sole-only h t ∙ ap (λ (u : Json). required h (soleOf u))
+        (b .is ∙ ap (λ (ts : Values). list (also (b .head) ts)) (w .is))
+
+    pub begun-sole : (k : ℕ) {q : ℕ} (n : Element) → Comes s k (b .tail) e n → n ≡ E.Past q
+        → (onlyOne h t ≡ h (b .head)) × (q ≡ e)
+    begun-sole k {q} n f z =
+        let w : (b .tail ≡ no-more) × (q ≡ e) = subst (Comes s k (b .tail) e) z f in (
+          sole-only h t ∙ ap (λ (u : Json). required h (soleOf u))
+              (b .is ∙ ap (λ (ts : Values). list (also (b .head) ts)) (w .0)),
+          w .1,
+        )
 
 -- ---- what it says
-
-pub sole-only : {A : Type 0} (f : Json → Reading A) (t : Json) → onlyOne f t ≡ required f (soleOf t)
-unfolding onlyOne
-sole-only f null = refl
-sole-only f (bool b) = refl
-sole-only f (number w) = refl
-sole-only f (string w) = refl
-sole-only f (list no-more) = refl
-sole-only f (list (also t no-more)) = refl
-sole-only f (list (also t (also u ts))) = refl
-sole-only f (object ms) = refl
 
 pub sole-cost : (t u : Json) → soleOf t ≡ one u → cost u ≤ cost t
 unfolding cost costs
@@ -155,34 +185,10 @@ key-name-said t = refl
 
 -- ---- the one string of a member's list
 
-module _ {s : List ℕ} {v : ℕ} {x : Slot} (p : Placed s v x) where
-  pub one-absent : v ≡ 0 → theOne x ≡ wrong
-  one-absent e = ap theOne (placed-absent p e)
+pub one-absent : {s : List ℕ} {v : ℕ} {x : Slot} → Placed s v x → v ≡ 0 → theOne x ≡ wrong
+one-absent p e = ap theOne (placed-absent p e)
 
-  module _ (h : v ≡ 0 → ⊥) (i : ℕ) (f : (t : Json) (e : ℕ) → Stands s t v e → Placed s i (soleOf t)) where
-    pub found : Found s v x
-    found = placed-found p h
-
-    sole : Placed s i (soleOf (found .what))
-    sole = f (found .what) (found .stop) (found .at)
-
-    pub one-none : i ≡ 0 → theOne x ≡ wrong
-    one-none e =
-        ap theOne (found .is) ∙ sole-only charactersOf (found .what) ∙ ap (required charactersOf) (placed-absent sole e)
-
-    pub one-found : (i ≡ 0 → ⊥) → Found s i (soleOf (found .what))
-    one-found n = placed-found sole n
-
-    pub one-said : (n : i ≡ 0 → ⊥) → theOne x ≡ charactersOf (one-found n .what)
-    one-said n =
-        ap theOne (found .is) ∙ sole-only charactersOf (found .what)
-        ∙ ap (required charactersOf) (one-found n .is)
-
-    pub one-cost : (n : i ≡ 0 → ⊥) → cost (one-found n .what) ≤ costOf x
-    one-cost n =
-        omega (arith, sole-cost (found .what) (one-found n .what) (one-found n .is), ap costOf (found .is))
-
--- ---- a resource that is given, a key that is given
+-- ---- a resource that is given
 
 pub resource-said : {s : List ℕ} {v : ℕ} {x : Slot} → Placed s v x → (v ≡ 0 → ⊥)
     → optional (42 ∷ []) (onlyOne resourceArnOf) x ≡ formed isResourceArn (λ cs. cs) (theOne x)
@@ -190,7 +196,3 @@ resource-said p h =
     let f = placed-found p h in
     ap (optional (42 ∷ []) (onlyOne resourceArnOf)) (f .is) ∙ resource-arn-said (f .what)
     ∙ ap (λ x. formed isResourceArn (λ cs. cs) (theOne x)) (sym (f .is))
-
-pub key-said : {s : List ℕ} {v : ℕ} {x : Slot} (f : Found s v x)
-    → required keyNameOf x ≡ formed isKeyName (λ cs. cs) (charactersOf (f .what))
-key-said f = ap (required keyNameOf) (f .is) ∙ key-name-said (f .what)

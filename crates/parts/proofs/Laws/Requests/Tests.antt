@@ -82,16 +82,6 @@ module _ (cs : List ℕ) where
 
 -- ---- types
 
-module _ (t : Json) where
-  pub type-text : isWord stringTypeWord t ≡ true → typeNamed t ≡ 1
-  type-text e = rw e
-
-  pub type-number : isWord stringTypeWord t ≡ false → isWord numericTypeWord t ≡ true → typeNamed t ≡ 2
-  type-number e f = rw (e, f)
-
-  pub type-none : isWord stringTypeWord t ≡ false → isWord numericTypeWord t ≡ false → typeNamed t ≡ 0
-  type-none e f = rw (e, f)
-
 -- the value of a type that is named
 abbrev kindBy : Bool → Bool → ℕ
 kindBy a b = pick a 1 (pick b 2 0)

@@ -6,7 +6,8 @@ use borrow.Author.Tests.{not-true, not-false}
 use Rattle.syntax.specs.Members.{each}
 use Rattle.held.specs.Held.{heldValue}
 use Rattle.parts.specs.Holding.{isList, entryOf}
-use Rattle.parts.proofs.Laws.Formed.{holds-past, holds-wrong, gathers-several, gathers-wrong}
+use Rattle.parts.proofs.Laws.Formed.{ends-past, ends-wrong}
+use Rattle.parts.proofs.Laws.Formed.{lists-several, lists-wrong}
 use Rattle.parts.proofs.Laws.Several.{kind-told, is-list, list-holdable, one-left, one-laid, list-left}
 use Rattle.parts.proofs.Laws.Several.{list-none, list-laid, gathered-few, value-some, list-stands}
 use borrow.Author.Needs.{needs}
@@ -48,8 +49,8 @@ enum-told : tie.Need-enum-told
 enum-told c = search needs
 
 same-length : tie.Need-same-length
-same-length c = holds-wrong heldValue
-    (c .before .before .before .before .before .before .before .before .before .before .before .args .run .now) _ _ _
+same-length c = ends-wrong heldValue
+    (c .before .before .before .before .before .before .before .before .before .before .before .args .run .now) _ _ _ _
     (c .before .before .before .before .hold-entry .ensures _ _
     (c .before .before .before .before .before .before .before .before .before .before .before .pre .is))
     (c .enum-told .given .1) .size
@@ -64,7 +65,7 @@ returns c =
     λ t e p. one-left heldValue (entryOf (start .args .k)) t
     ((kind-told isList (at-kind-at .kind-at .ensures) (at-is-list .is-list .ensures)
     (not-true (at-is-list .is-list .result) (at-if1 .if1 .taken))) t e p)
-    (holds-wrong heldValue (start .args .run .now) _ _ _ (at-hold-entry .hold-entry .ensures t e p)
+    (ends-wrong heldValue (start .args .run .now) _ _ _ _ (at-hold-entry .hold-entry .ensures t e p)
     (c .enum-told .given .1))
 
 mul-run : tie.Need-mul-run
@@ -74,8 +75,8 @@ slice-write-run : tie.Need-slice-write-run
 slice-write-run c =
     let at-hold-entry = c .before .before .before .before .before in
     let start = at-hold-entry .before .before .before .before .before .before .before in
-    let d = holds-past heldValue (start .args .run .now) _ _ _
-    (at-hold-entry .hold-entry .ensures _ _ (start .pre .is)) (c .before .h .given .1) in
+    let d = ends-past heldValue (start .args .run .now) _ _ _ _
+    (at-hold-entry .hold-entry .ensures _ _ (start .pre .is)) (c .before .h .given .1) .0 in
     omega (arith, d .extends .size, start .pre .roomy .room)
 
 same-length-2 : tie.Need-same-length-2
@@ -89,8 +90,8 @@ same-length-2 c =
     ((kind-told isList (at-kind-at .kind-at .ensures) (at-is-list .is-list .ensures)
     (not-true (at-is-list .is-list .result) (at-if1 .if1 .taken))) _ _ (start .pre .is))
     (omega (arith, start .pre .roomy .room))
-    (holds-past heldValue (start .args .run .now) _ _ _ (at-hold-entry .hold-entry .ensures _ _ (start .pre .is))
-    (c .before .h .given .1)) .extends .size
+    (ends-past heldValue (start .args .run .now) _ _ _ _ (at-hold-entry .hold-entry .ensures _ _ (start .pre .is))
+    (c .before .h .given .1) .0) .extends .size
 
 returns-2 : tie.Need-returns-2
 returns-2 c =
@@ -99,11 +100,15 @@ returns-2 c =
     let at-is-list = at-if1 .before in
     let at-kind-at = at-is-list .before in
     let start = at-kind-at .before .before .before in
-    λ t e p. one-laid heldValue (entryOf (start .args .k)) t
-    ((kind-told isList (at-kind-at .kind-at .ensures) (at-is-list .is-list .ensures)
-    (not-true (at-is-list .is-list .result) (at-if1 .if1 .taken))) t e p) (omega (arith, start .pre .roomy .room))
-    (holds-past heldValue (start .args .run .now) _ _ _ (at-hold-entry .hold-entry .ensures t e p)
-    (c .before .h .given .1))
+    λ t e p. (
+      one-laid heldValue (entryOf (start .args .k)) t
+          ((kind-told isList (at-kind-at .kind-at .ensures) (at-is-list .is-list .ensures)
+          (not-true (at-is-list .is-list .result) (at-if1 .if1 .taken))) t e p) (omega (arith, start .pre .roomy .room))
+          (ends-past heldValue (start .args .run .now) _ _ _ _ (at-hold-entry .hold-entry .ensures t e p)
+          (c .before .h .given .1) .0),
+      ends-past heldValue (start .args .run .now) _ _ _ _ (at-hold-entry .hold-entry .ensures t e p)
+          (c .before .h .given .1) .1,
+    )
 
 hold-list-requires : tie.Need-hold-list-requires
 hold-list-requires c κs = list-holdable (c .before .before .before .before .before .before .pre)
@@ -124,7 +129,7 @@ same-length-3 c =
     let at-is-list = at-if1 .before in
     let at-kind-at = at-is-list .before in
     let start = at-kind-at .before .before .before in
-    gathers-wrong heldValue (start .args .run .now) _ _ _
+    lists-wrong heldValue (start .args .run .now) _ _ _ _
     (at-hold-list .hold-list .ensures _ _ (list-stands (start .pre .is)
     ((kind-told isList (at-kind-at .kind-at .ensures) (at-is-list .is-list .ensures)
     (not-false (at-is-list .is-list .result) (at-if1 .if1 .left))) _ _ (start .pre .is)))) (c .enum-told2 .given .1)
@@ -140,7 +145,7 @@ returns-3 c =
     λ t e p. list-left heldValue (entryOf (start .args .k))
     (is-list t ((kind-told isList (at-kind-at .kind-at .ensures) (at-is-list .is-list .ensures)
     (not-false (at-is-list .is-list .result) (at-if1 .if1 .left))) t e p) .is)
-    (gathers-wrong heldValue (start .args .run .now) _ _ _
+    (lists-wrong heldValue (start .args .run .now) _ _ _ _
     (at-hold-list .hold-list .ensures _ _ (list-stands p
     ((kind-told isList (at-kind-at .kind-at .ensures) (at-is-list .is-list .ensures)
     (not-false (at-is-list .is-list .result) (at-if1 .if1 .left))) t e p))) (c .enum-told2 .given .1))
@@ -153,10 +158,10 @@ same-length-4 c =
     let at-is-list = at-if1 .before in
     let at-kind-at = at-is-list .before in
     let start = at-kind-at .before .before .before in
-    (gathers-several heldValue (start .args .run .now) _ _ _
+    (lists-several heldValue (start .args .run .now) _ _ _ _
     (at-hold-list .hold-list .ensures _ _ (list-stands (start .pre .is)
     ((kind-told isList (at-kind-at .kind-at .ensures) (at-is-list .is-list .ensures)
-    (not-false (at-is-list .is-list .result) (at-if1 .if1 .left))) _ _ (start .pre .is)))) (at-c .c .given .1))
+    (not-false (at-is-list .is-list .result) (at-if1 .if1 .left))) _ _ (start .pre .is)))) (at-c .c .given .1) .0)
     .extends .size
 
 returns-4 : tie.Need-returns-4
@@ -170,10 +175,10 @@ returns-4 c =
     λ t e p. list-none heldValue (entryOf (start .args .k))
     (is-list t ((kind-told isList (at-kind-at .kind-at .ensures) (at-is-list .is-list .ensures)
     (not-false (at-is-list .is-list .result) (at-if1 .if1 .left))) t e p) .is) (c .if2 .taken)
-    (gathers-several heldValue (start .args .run .now) _ _ _
+    (lists-several heldValue (start .args .run .now) _ _ _ _
     (at-hold-list .hold-list .ensures _ _ (list-stands p
     ((kind-told isList (at-kind-at .kind-at .ensures) (at-is-list .is-list .ensures)
-    (not-false (at-is-list .is-list .result) (at-if1 .if1 .left))) t e p))) (at-c .c .given .1))
+    (not-false (at-is-list .is-list .result) (at-if1 .if1 .left))) t e p))) (at-c .c .given .1) .0)
 
 cast-run : tie.Need-cast-run
 cast-run c =
@@ -183,12 +188,12 @@ cast-run c =
     let at-is-list = at-if1 .before in
     let at-kind-at = at-is-list .before in
     let start = at-kind-at .before .before .before in
-    let g = (gathers-several heldValue (start .args .run .now) _ _ _
+    let g = (lists-several heldValue (start .args .run .now) _ _ _ _
     (at-hold-list .hold-list .ensures _ _ (list-stands (start .pre .is)
     ((kind-told isList (at-kind-at .kind-at .ensures) (at-is-list .is-list .ensures)
-    (not-false (at-is-list .is-list .result) (at-if1 .if1 .left))) _ _ (start .pre .is)))) (at-c .c .given .1)) in
+    (not-false (at-is-list .is-list .result) (at-if1 .if1 .left))) _ _ (start .pre .is)))) (at-c .c .given .1) .0) in
     let few = gathered-few value-some (omega (arith, start .pre .roomy .room)) g in
-    let k : at-c .c .given .0 .1 .0 ≤ 16384 = omega (arith, few, start .pre .roomy .bounded) in search needs
+    let k : at-c .c .given .0 .1 .1 .0 ≤ 16384 = omega (arith, few, start .pre .roomy .bounded) in search needs
 
 mul-run-2 : tie.Need-mul-run-2
 mul-run-2 c = search needs
@@ -201,10 +206,10 @@ slice-write-run-2 c =
     let at-is-list = at-if1 .before in
     let at-kind-at = at-is-list .before in
     let start = at-kind-at .before .before .before in
-    let g = (gathers-several heldValue (start .args .run .now) _ _ _
+    let g = (lists-several heldValue (start .args .run .now) _ _ _ _
     (at-hold-list .hold-list .ensures _ _ (list-stands (start .pre .is)
     ((kind-told isList (at-kind-at .kind-at .ensures) (at-is-list .is-list .ensures)
-    (not-false (at-is-list .is-list .result) (at-if1 .if1 .left))) _ _ (start .pre .is)))) (at-c .c .given .1)) in
+    (not-false (at-is-list .is-list .result) (at-if1 .if1 .left))) _ _ (start .pre .is)))) (at-c .c .given .1) .0) in
     omega (arith, g .extends .size, start .pre .roomy .room)
 
 same-length-5 : tie.Need-same-length-5
@@ -219,10 +224,10 @@ same-length-5 c =
     (is-list _ ((kind-told isList (at-kind-at .kind-at .ensures) (at-is-list .is-list .ensures)
     (not-false (at-is-list .is-list .result) (at-if1 .if1 .left))) _ _ (start .pre .is)) .is) (c .if2 .left)
     (omega (arith, start .pre .roomy .room))
-    (gathers-several heldValue (start .args .run .now) _ _ _
+    (lists-several heldValue (start .args .run .now) _ _ _ _
     (at-hold-list .hold-list .ensures _ _ (list-stands (start .pre .is)
     ((kind-told isList (at-kind-at .kind-at .ensures) (at-is-list .is-list .ensures)
-    (not-false (at-is-list .is-list .result) (at-if1 .if1 .left))) _ _ (start .pre .is)))) (at-c .c .given .1))
+    (not-false (at-is-list .is-list .result) (at-if1 .if1 .left))) _ _ (start .pre .is)))) (at-c .c .given .1) .0)
     .extends .size
 
 returns-5 : tie.Need-returns-5
@@ -233,14 +238,20 @@ returns-5 c =
     let at-is-list = at-if1 .before in
     let at-kind-at = at-is-list .before in
     let start = at-kind-at .before .before .before in
-    λ t e p. list-laid heldValue (entryOf (start .args .k))
-    (is-list t ((kind-told isList (at-kind-at .kind-at .ensures) (at-is-list .is-list .ensures)
-    (not-false (at-is-list .is-list .result) (at-if1 .if1 .left))) t e p) .is) (c .if2 .left)
-    (omega (arith, start .pre .roomy .room))
-    (gathers-several heldValue (start .args .run .now) _ _ _
-    (at-hold-list .hold-list .ensures _ _ (list-stands p
-    ((kind-told isList (at-kind-at .kind-at .ensures) (at-is-list .is-list .ensures)
-    (not-false (at-is-list .is-list .result) (at-if1 .if1 .left))) t e p))) (at-c .c .given .1))
+    λ t e p. (
+      list-laid heldValue (entryOf (start .args .k))
+          (is-list t ((kind-told isList (at-kind-at .kind-at .ensures) (at-is-list .is-list .ensures)
+          (not-false (at-is-list .is-list .result) (at-if1 .if1 .left))) t e p) .is) (c .if2 .left)
+          (omega (arith, start .pre .roomy .room))
+          (lists-several heldValue (start .args .run .now) _ _ _ _
+          (at-hold-list .hold-list .ensures _ _ (list-stands p
+          ((kind-told isList (at-kind-at .kind-at .ensures) (at-is-list .is-list .ensures)
+          (not-false (at-is-list .is-list .result) (at-if1 .if1 .left))) t e p))) (at-c .c .given .1) .0),
+      lists-several heldValue (start .args .run .now) _ _ _ _
+          (at-hold-list .hold-list .ensures _ _ (list-stands p
+          ((kind-told isList (at-kind-at .kind-at .ensures) (at-is-list .is-list .ensures)
+          (not-false (at-is-list .is-list .result) (at-if1 .if1 .left))) t e p))) (at-c .c .given .1) .1,
+    )
 
 pub hold-entries-spec : {M : Type 1} → statement M
 hold-entries-spec =

@@ -1,7 +1,7 @@
 -- Each kind of list has its own form of entry.
 use Rattle.held.specs.Held.{heldValue}
-use Rattle.parts.proofs.Laws.Holding.{holds-alike}
-use Rattle.parts.proofs.Laws.Values.{holds-text, action-is, resource-is, value-is}
+use Rattle.parts.proofs.Laws.Holding.{ends-alike}
+use Rattle.parts.proofs.Laws.Values.{ends-text, action-is, resource-is, value-is}
 use borrow.Author.Needs.{needs}
 use Rattle.parts.proofs.entries.hold_entry.Statement.{statement}
 use Rattle.parts.proofs.entries.hold_entry.Tie as tie
@@ -29,12 +29,12 @@ same-length c = search needs
 
 returns : tie.Need-returns
 returns c =
-    λ t e p. holds-alike heldValue (c .before .before .before .before .before .before .before .before .args .run .now)
-    _ (c .before .before .before .before .before .before .before .before .args .at)
+    λ t e p. ends-alike heldValue (c .before .before .before .before .before .before .before .before .args .run .now)
+    _ (c .before .before .before .before .before .before .before .before .args .at) e
     (c .before .before .hold-action .result) _ _
     (action-is t (c .before .before .before .before .enum-told .given .1))
-    (holds-text (c .before .before .before .before .before .before .before .before .args .run .now) _
-    (c .before .before .before .before .before .before .before .before .args .at) _
+    (ends-text (c .before .before .before .before .before .before .before .before .args .run .now) _
+    (c .before .before .before .before .before .before .before .before .args .at) e _
     (c .before .before .hold-action .result) (c .before .before .hold-action .ensures t e p))
 
 same-length-2 : tie.Need-same-length-2
@@ -42,12 +42,12 @@ same-length-2 c = search needs
 
 returns-2 : tie.Need-returns-2
 returns-2 c =
-    λ t e p. holds-alike heldValue (c .before .before .before .before .before .before .before .before .args .run .now)
-    _ (c .before .before .before .before .before .before .before .before .args .at)
+    λ t e p. ends-alike heldValue (c .before .before .before .before .before .before .before .before .args .run .now)
+    _ (c .before .before .before .before .before .before .before .before .args .at) e
     (c .before .before .hold-resource .result) _ _ (resource-is t
     (c .before .before .before .before .enum-told2 .given .1))
-    (holds-text (c .before .before .before .before .before .before .before .before .args .run .now) _
-    (c .before .before .before .before .before .before .before .before .args .at) _
+    (ends-text (c .before .before .before .before .before .before .before .before .args .run .now) _
+    (c .before .before .before .before .before .before .before .before .args .at) e _
     (c .before .before .hold-resource .result) (c .before .before .hold-resource .ensures t e p))
 
 same-length-3 : tie.Need-same-length-3
@@ -55,9 +55,9 @@ same-length-3 c = search needs
 
 returns-3 : tie.Need-returns-3
 returns-3 c =
-    λ t e p. holds-alike heldValue
+    λ t e p. ends-alike heldValue
     (c .before .before .before .before .before .before .before .before .before .args .run .now) _
-    (c .before .before .before .before .before .before .before .before .before .args .at)
+    (c .before .before .before .before .before .before .before .before .before .args .at) e
     (c .before .before .hold-value .result) _ _ (value-is t
     (c .before .before .before .before .before .k .given .1))
     (c .before .before .hold-value .ensures t e p)

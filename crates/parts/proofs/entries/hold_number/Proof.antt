@@ -46,24 +46,25 @@ put-number-requires c κs =
           (at-k .k .given .1)),
     )
 
+past-value-requires : tie.Need-past-value-requires
+past-value-requires c κs = search needs
+
 same-length-2 : tie.Need-same-length-2
-same-length-2 c =
-    let at-put-number = c .before .before in
-    let at-number-at = at-put-number .before .before .before .before .before .before .before in
-    let start = at-number-at .before .before .before .before in
-    at-put-number .put-number .ensures .size ∙ (at-number-at .number-at .ensures _ _ (start .pre .is)) .size
+same-length-2 c = search needs
 
 returns-2 : tie.Need-returns-2
 returns-2 c =
-    λ t e p. let f = (c .before .before .before .before .before .before .before .before .before .number-at .ensures t e
-    p) in
-    let said = number-told (f .said) (c .before .before .before .before .before .k .given .1) in
-    record {
-      thing = c .before .before .before .before .before .k .given .0 .0;
-      said = said;
-      extends = extends-after
-          (f .kept _ said) (c .before .before .put-number .ensures);
-    }
+    let at-k = c .before .before .before .before .before .before in
+    λ t e p.
+    let f = at-k .before .before .before .before .number-at .ensures t e p in
+    let said = number-told (f .said) (at-k .k .given .1) in (
+      record {
+        thing = at-k .k .given .0 .0;
+        said = said;
+        extends = extends-after (f .kept _ said) (c .before .before .before .put-number .ensures);
+      },
+      c .past-value .ensures t e p,
+    )
 
 pub hold-number-spec : {M : Type 1} → statement M
 hold-number-spec =
@@ -75,5 +76,6 @@ hold-number-spec =
     same-length
     returns
     put-number-requires
+    past-value-requires
     same-length-2
     returns-2)

@@ -7,7 +7,7 @@ use Rattle.syntax.specs.Forms.{isResource, symbolsOf}
 use Rattle.syntax.specs.Members.{then, charactersOf}
 use Rattle.syntax.specs.PolicyLayout.{resourceOf}
 use Rattle.held.specs.Held.{heldText}
-use Rattle.parts.proofs.Laws.Formed.{holds-past, holds-wrong, past-first, past-within, part-told, formed-no}
+use Rattle.parts.proofs.Laws.Formed.{ends-past, ends-wrong, past-first, past-within, part-told, formed-no}
 use Rattle.parts.proofs.Laws.Formed.{formed-yes, resource-formed, resource-left}
 use borrow.Author.Needs.{needs}
 use Rattle.parts.proofs.entries.hold_resource.Statement.{statement}
@@ -27,10 +27,10 @@ same-length c = search needs
 
 returns : tie.Need-returns
 unfolding resourceOf
-returns c = λ t e p. resource-left (charactersOf t) (holds-wrong heldText
+returns c = λ t e p. resource-left (charactersOf t) (ends-wrong heldText
     (c .before .before .before .before .before .before .before .before .args .run .now) _
     (c .before .before .before .before .before .before .before .before .args .at)
-    (then (charactersOf t) (symbolsOf true)) (c .before .before .before .before .hold-symbols .ensures t e p)
+    (then (charactersOf t) (symbolsOf true)) _ (c .before .before .before .before .hold-symbols .ensures t e p)
     (c .enum-told .given .1))
 
 add-first : tie.Need-add-first
@@ -44,8 +44,8 @@ sub-is-resource c =
     let at-hold-symbols = c .before .before .before .before .before in
     let start = at-hold-symbols .before .before .before .before in
     past-first (omega (arith, start .pre .roomy .room))
-    (holds-past heldText (start .args .run .now) _ (start .args .at) _
-    (at-hold-symbols .hold-symbols .ensures _ _ (start .pre .is)) (c .before .h .given .1))
+    (ends-past heldText (start .args .run .now) _ (start .args .at) _ _
+    (at-hold-symbols .hold-symbols .ensures _ _ (start .pre .is)) (c .before .h .given .1) .0)
 
 part-is-resource-start : tie.Need-part-is-resource-start
 part-is-resource-start c =
@@ -53,8 +53,8 @@ part-is-resource-start c =
     let at-hold-symbols = at-h .before .before .before .before in
     let start = at-hold-symbols .before .before .before .before in
     past-first (omega (arith, start .pre .roomy .room))
-    (holds-past heldText (start .args .run .now) _ (start .args .at) _
-    (at-hold-symbols .hold-symbols .ensures _ _ (start .pre .is)) (at-h .h .given .1))
+    (ends-past heldText (start .args .run .now) _ (start .args .at) _ _
+    (at-hold-symbols .hold-symbols .ensures _ _ (start .pre .is)) (at-h .h .given .1) .0)
 
 part-is-resource-end : tie.Need-part-is-resource-end
 part-is-resource-end c =
@@ -62,8 +62,8 @@ part-is-resource-end c =
     let at-hold-symbols = at-h .before .before .before .before in
     let start = at-hold-symbols .before .before .before .before in
     past-within (omega (arith, start .pre .roomy .room))
-    (holds-past heldText (start .args .run .now) _ (start .args .at) _
-    (at-hold-symbols .hold-symbols .ensures _ _ (start .pre .is)) (at-h .h .given .1))
+    (ends-past heldText (start .args .run .now) _ (start .args .at) _ _
+    (at-hold-symbols .hold-symbols .ensures _ _ (start .pre .is)) (at-h .h .given .1) .0)
 
 is-resource-requires : tie.Need-is-resource-requires
 is-resource-requires c κs = search needs
@@ -78,8 +78,8 @@ returns-2 c =
     let at-hold-symbols = at-h .before .before .before .before in
     let start = at-hold-symbols .before .before .before .before in
     λ t e p.
-    let d = (holds-past heldText (start .args .run .now) _ (start .args .at) (then (charactersOf t) (symbolsOf true))
-    (at-hold-symbols .hold-symbols .ensures t e p) (at-h .h .given .1)) in
+    let d = (ends-past heldText (start .args .run .now) _ (start .args .at) (then (charactersOf t) (symbolsOf true)) _
+    (at-hold-symbols .hold-symbols .ensures t e p) (at-h .h .given .1) .0) in
     let n = part-told (omega (arith, start .pre .roomy .room)) d isResource (c .before .is-resource .ensures)
     (not-true (c .before .is-resource .result) (c .if1 .taken)) in
     record {
@@ -98,15 +98,18 @@ returns-3 c =
     let at-hold-symbols = at-h .before .before .before .before in
     let start = at-hold-symbols .before .before .before .before in
     λ t e p.
-    let d = (holds-past heldText (start .args .run .now) _ (start .args .at) (then (charactersOf t) (symbolsOf true))
-    (at-hold-symbols .hold-symbols .ensures t e p) (at-h .h .given .1)) in
+    let d = (ends-past heldText (start .args .run .now) _ (start .args .at) (then (charactersOf t) (symbolsOf true)) _
+    (at-hold-symbols .hold-symbols .ensures t e p) (at-h .h .given .1) .0) in
     let n = part-told (omega (arith, start .pre .roomy .room)) d isResource (c .before .is-resource .ensures)
-    (not-false (c .before .is-resource .result) (c .if1 .left)) in
-    record {
-      thing = d .thing;
-      said = resource-formed (charactersOf t) ∙ formed-yes isResource (λ cs. cs) (d .said) n;
-      extends = d .extends;
-    }
+    (not-false (c .before .is-resource .result) (c .if1 .left)) in (
+      record {
+        thing = d .thing;
+        said = resource-formed (charactersOf t) ∙ formed-yes isResource (λ cs. cs) (d .said) n;
+        extends = d .extends;
+      },
+      ends-past heldText (start .args .run .now) _ (start .args .at) (then (charactersOf t) (symbolsOf true)) _
+          (at-hold-symbols .hold-symbols .ensures t e p) (at-h .h .given .1) .1,
+    )
 
 pub hold-resource-spec : {M : Type 1} → statement M
 hold-resource-spec =

@@ -1,7 +1,7 @@
 -- Each operator's values are held in their own form.
 use Rattle.held.specs.Held.{heldValue}
-use Rattle.parts.proofs.Laws.Holding.{holds-alike}
-use Rattle.parts.proofs.Laws.Values.{holds-text, holds-number, equals-is, like-is, bound-is}
+use Rattle.parts.proofs.Laws.Holding.{ends-alike}
+use Rattle.parts.proofs.Laws.Values.{ends-text, ends-number, equals-is, like-is, bound-is}
 use borrow.Author.Needs.{needs}
 use Rattle.parts.proofs.entries.hold_value.Statement.{statement}
 use Rattle.parts.proofs.entries.hold_value.Tie as tie
@@ -29,12 +29,12 @@ same-length c = search needs
 
 returns : tie.Need-returns
 returns c =
-    λ t e p. holds-alike heldValue (c .before .before .before .before .before .before .before .before .args .run .now)
-    _ (c .before .before .before .before .before .before .before .before .args .at)
+    λ t e p. ends-alike heldValue (c .before .before .before .before .before .before .before .before .args .run .now)
+    _ (c .before .before .before .before .before .before .before .before .args .at) e
     (c .before .before .hold-symbols .result) _ _
     (equals-is t (c .before .before .before .before .enum-told .given .1))
-    (holds-text (c .before .before .before .before .before .before .before .before .args .run .now) _
-    (c .before .before .before .before .before .before .before .before .args .at) _
+    (ends-text (c .before .before .before .before .before .before .before .before .args .run .now) _
+    (c .before .before .before .before .before .before .before .before .args .at) e _
     (c .before .before .hold-symbols .result) (c .before .before .hold-symbols .ensures t e p))
 
 same-length-2 : tie.Need-same-length-2
@@ -42,12 +42,12 @@ same-length-2 c = search needs
 
 returns-2 : tie.Need-returns-2
 returns-2 c =
-    λ t e p. holds-alike heldValue (c .before .before .before .before .before .before .before .before .args .run .now)
-    _ (c .before .before .before .before .before .before .before .before .args .at)
+    λ t e p. ends-alike heldValue (c .before .before .before .before .before .before .before .before .args .run .now)
+    _ (c .before .before .before .before .before .before .before .before .args .at) e
     (c .before .before .hold-symbols2 .result) _ _
     (like-is t (c .before .before .before .before .enum-told2 .given .1))
-    (holds-text (c .before .before .before .before .before .before .before .before .args .run .now) _
-    (c .before .before .before .before .before .before .before .before .args .at) _
+    (ends-text (c .before .before .before .before .before .before .before .before .args .run .now) _
+    (c .before .before .before .before .before .before .before .before .args .at) e _
     (c .before .before .hold-symbols2 .result) (c .before .before .hold-symbols2 .ensures t e p))
 
 same-length-3 : tie.Need-same-length-3
@@ -55,12 +55,12 @@ same-length-3 c = search needs
 
 returns-3 : tie.Need-returns-3
 returns-3 c =
-    λ t e p. holds-alike heldValue (c .before .before .before .before .before .before .before .before .args .run .now)
-    _ (c .before .before .before .before .before .before .before .before .args .at)
+    λ t e p. ends-alike heldValue (c .before .before .before .before .before .before .before .before .args .run .now)
+    _ (c .before .before .before .before .before .before .before .before .args .at) e
     (c .before .before .hold-number .result) _ _
     (bound-is t (c .before .before .before .before .enum-told3 .given .1))
-    (holds-number (c .before .before .before .before .before .before .before .before .args .run .now) _
-    (c .before .before .before .before .before .before .before .before .args .at) _
+    (ends-number (c .before .before .before .before .before .before .before .before .args .run .now) _
+    (c .before .before .before .before .before .before .before .before .args .at) e _
     (c .before .before .hold-number .result) (c .before .before .hold-number .ensures t e p))
 
 pub hold-value-spec : {M : Type 1} → statement M

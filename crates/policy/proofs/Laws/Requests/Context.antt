@@ -10,7 +10,6 @@ use lib.ListN.{length, getD, set}
 use Rattle.text.specs.Json.{Json, null, bool, number, string, list, object, Members}
 use Rattle.text.specs.Contents.{kindOf, Stands}
 use Rattle.syntax.specs.Policy.{Context}
-use Rattle.syntax.specs.Policy as P
 use Rattle.syntax.specs.Forms.{Reading, wrong, read}
 use Rattle.syntax.specs.Words.{contextKeyNameWord, contextKeyTypeWord, contextKeyValuesWord}
 use Rattle.syntax.specs.Members.{Slot, none, many, one, then, slot, known, required}
@@ -42,13 +41,27 @@ not-context (string w) e = refl
 not-context (list ts) e = refl
 not-context (object ms) e = never (sym e)
 
-abbrev valued : List ℕ → Json → List ℕ → Reading Context
+abbrev pub valued : List ℕ → Json → List ℕ → Reading Context
 valued k t cs = then (typedOf t cs) (λ v. read (record { key = k; value = v }))
 
 abbrev pub contextIn : Slot → Slot → Slot → Reading Context
 contextIn x y z = then (required keyNameOf x) (λ k.
     then (required (λ t. read t) y) (λ t.
     then (theOne z) (valued k t)))
+
+pub key-not : (x y z : Slot) → x ≡ many → contextIn x y z ≡ wrong
+key-not x y z e = ap (λ (u : Slot). contextIn u y z) e
+
+pub type-not : (r : Reading (List ℕ)) (y z : Slot) → y ≡ many
+    → then r (λ k. then (required (λ t. read t) y) (λ t. then (theOne z) (valued k t))) ≡ wrong
+type-not wrong y z e = refl
+type-not (read k) y z e = ap (λ (u : Slot). then (required (λ t. read t) u) (λ t. then (theOne z) (valued k t))) e
+
+pub value-not : (r : Reading (List ℕ)) (q : Reading Json) (z : Slot) → z ≡ many
+    → then r (λ k. then q (λ t. then (theOne z) (valued k t))) ≡ wrong
+value-not wrong q z e = refl
+value-not (read k) wrong z e = refl
+value-not (read k) (read t) z e = ap (λ (u : Slot). then (theOne u) (valued k t)) e
 
 module _ (ms : Members) where
   abbrev pub contextWithin : Reading Context
@@ -62,20 +75,6 @@ module _ (ms : Members) where
   unfolding contextOf
   context-unknown e = rw e
 
-  key-not : (x y z : Slot) → x ≡ many → contextIn x y z ≡ wrong
-  key-not x y z e = ap (λ (u : Slot). contextIn u y z) e
-
-  type-not : (r : Reading (List ℕ)) (y z : Slot) → y ≡ many
-      → then r (λ k. then (required (λ t. read t) y) (λ t. then (theOne z) (valued k t))) ≡ wrong
-  type-not wrong y z e = refl
-  type-not (read k) y z e = ap (λ (u : Slot). then (required (λ t. read t) u) (λ t. then (theOne z) (valued k t))) e
-
-  value-not : (r : Reading (List ℕ)) (q : Reading Json) (z : Slot) → z ≡ many
-      → then r (λ k. then q (λ t. then (theOne z) (valued k t))) ≡ wrong
-  value-not wrong q z e = refl
-  value-not (read k) wrong z e = refl
-  value-not (read k) (read t) z e = ap (λ (u : Slot). then (theOne u) (valued k t)) e
-
   many-wrong : (k : ℕ) → Turn (wordsOf L.Context) k → slot (wordAt (wordsOf L.Context) k) ms ≡ many
       → contextWithin ≡ wrong
   many-wrong zero t e = absurd (omega (arith, t .from))
@@ -87,7 +86,7 @@ module _ (ms : Members) where
       (required (λ t. read t) (slot contextKeyTypeWord ms)) _ e
   many-wrong (suc (suc (suc (suc k)))) t e = absurd (omega (arith, t .to))
 
-  by-known : (b : Bool) → known (wordsOf L.Context) ms ≡ b → contextWithin ≡ wrong → contextOf (object ms) ≡ wrong
+  pub by-known : (b : Bool) → known (wordsOf L.Context) ms ≡ b → contextWithin ≡ wrong → contextOf (object ms) ≡ wrong
   by-known true e f = context-known e ∙ f
   by-known false e f = context-unknown e
 

@@ -1,7 +1,7 @@
 -- The context entries of a record: a list of them, none of a key given twice, not too many, behind their number.
 use mathlib.Core.Path.{_≡_, refl, sym, ap, _∙_, subst}
 use mathlib.Core.Bool.{Bool, true, false}
-use mathlib.Core.List.{List, [], _∷_}
+use mathlib.Core.List.{List, _∷_}
 use Prim.Native.Nat.{ℕ, _+_, _≤_, _<_}
 use native.Mathlib.Omega.{arith}
 use lib.Dec.{leb}
@@ -12,22 +12,20 @@ use Rattle.text.specs.Contents.{kindOf, Stands}
 use Rattle.syntax.specs.Limits.{mostContext}
 use Rattle.syntax.specs.Policy.{Context}
 use Rattle.syntax.specs.Forms.{Reading, wrong, read, both}
-use Rattle.syntax.specs.Members.{Slot, then, only, each, differ, differing, optional}
+use Rattle.syntax.specs.Members.{then, only, each, differ, differing}
 use Rattle.syntax.specs.RecordLayout.{contextOf, sameContext, contextsOf}
 use Rattle.held.specs.Held.{heldEach, heldList, heldContext}
-use Rattle.parts.specs.Slots.{Placed}
-use Rattle.parts.specs.Room.{cost, costs, Roomy, HoldableList, costOf}
+use Rattle.parts.specs.Room.{cost, costs, Roomy, HoldableList}
 use Rattle.parts.specs.Holding.{isList, Extends, Laid, Gathered}
 use Rattle.parts.proofs.Laws.Holding.{never}
 use Rattle.parts.proofs.Laws.Room.{cost-list}
 use Rattle.parts.proofs.Laws.Extends.{extends-front}
 use Rattle.parts.proofs.Laws.Fits.{wrong-read}
-use Rattle.parts.proofs.Laws.Requests.Members.{Found, placed-found}
 use Rattle.parts.proofs.Laws.Requests.Sole.{AList, is-list, list-stands}
 
 -- ---- what a list says
 
-not-list : (t : Json) → isList (kindOf t) ≡ false → contextsOf t ≡ wrong
+pub not-list : (t : Json) → isList (kindOf t) ≡ false → contextsOf t ≡ wrong
 unfolding contextsOf
 not-list null e = refl
 not-list (bool true) e = refl
@@ -68,50 +66,43 @@ limited-is (read cs) ds e =
     by true = refl
     by false = refl
 
--- ---- of a member
+-- ---- of a value
 
-module _ {s : List ℕ} {v : ℕ} {x : Slot} (p : Placed s v x) (h : v ≡ 0 → ⊥) where
-  pub found : Found s v x
-  found = placed-found p h
+module _ (t : Json) (l : isList (kindOf t) ≡ true) where
+  pub listed : AList t
+  listed = is-list t l
 
-  pub contexts-not : isList (kindOf (found .what)) ≡ false → optional [] contextsOf x ≡ wrong
-  contexts-not e = ap (optional [] contextsOf) (found .is) ∙ not-list (found .what) e
+  abbrev entries : Reading (List Context)
+  entries = each contextOf (listed .elements)
 
-  module _ (l : isList (kindOf (found .what)) ≡ true) where
-    pub listed : AList (found .what)
-    listed = is-list (found .what) l
+  contexts-said : contextsOf t ≡ limited entries
+  unfolding contextsOf
+  contexts-said = ap contextsOf (listed .is)
 
-    pub listed-stands : Stands s (list (listed .elements)) v (found .stop)
-    listed-stands = list-stands (found .at) listed
+  pub contexts-wrong : apartly entries ≡ wrong → contextsOf t ≡ wrong
+  contexts-wrong e = contexts-said ∙ limited-wrong entries e
 
-    abbrev entries : Reading (List Context)
-    entries = each contextOf (listed .elements)
+  module _ (cs : List Context) (e : apartly entries ≡ read cs) where
+    pub contexts-many : mostContext < length cs → contextsOf t ≡ wrong
+    contexts-many m =
+        contexts-said ∙ limited-is entries cs e
+        ∙ ap (λ (b : Bool). only b cs) (lt-leb (length cs) mostContext m)
 
-    contexts-said : optional [] contextsOf x ≡ limited entries
-    unfolding contextsOf
-    contexts-said = ap (optional [] contextsOf) (found .is) ∙ ap contextsOf (listed .is)
+    pub contexts-few : length cs ≤ mostContext → contextsOf t ≡ read cs
+    contexts-few m =
+        contexts-said ∙ limited-is entries cs e
+        ∙ ap (λ (b : Bool). only b cs) (le-leb (length cs) mostContext m)
 
-    pub contexts-wrong : apartly entries ≡ wrong → optional [] contextsOf x ≡ wrong
-    contexts-wrong e = contexts-said ∙ limited-wrong entries e
+  module _ {s : List ℕ} {v e : ℕ} (p : Stands s t v e) where
+    pub listed-stands : Stands s (list (listed .elements)) v e
+    listed-stands = list-stands p listed
 
-    module _ (cs : List Context) (e : apartly entries ≡ read cs) where
-      pub contexts-many : mostContext < length cs → optional [] contextsOf x ≡ wrong
-      contexts-many m =
-          contexts-said ∙ limited-is entries cs e
-          ∙ ap (λ (b : Bool). only b cs) (lt-leb (length cs) mostContext m)
-
-      pub contexts-few : length cs ≤ mostContext → optional [] contextsOf x ≡ read cs
-      contexts-few m =
-          contexts-said ∙ limited-is entries cs e
-          ∙ ap (λ (b : Bool). only b cs) (le-leb (length cs) mostContext m)
-
-    pub contexts-room : {run : List ℕ} {at : ℕ} → Roomy run at (1 + costOf x) → HoldableList s v run (at + 1)
+    pub contexts-room : {run : List ℕ} {at : ℕ} → Roomy run at (1 + cost t) → HoldableList s v run (at + 1)
     contexts-room {run} {at} r =
-        let c : costOf x ≡ 2 + costs (listed .elements) =
-        ap costOf (found .is) ∙ ap cost (listed .is) ∙ cost-list (listed .elements) in
+        let c : cost t ≡ 2 + costs (listed .elements) = ap cost (listed .is) ∙ cost-list (listed .elements) in
         record {
           what = listed .elements;
-          stop = found .stop;
+          stop = e;
           is = listed-stands;
           roomy = record { room = omega (arith, c, r .room); bounded = r .bounded };
         }

@@ -20,10 +20,9 @@ use Rattle.parts.specs.Slots.{wordsOf}
 use Rattle.parts.specs.Room.{cost, costm, Roomy, costOf}
 use Rattle.parts.specs.Holding.{Laid}
 use Rattle.parts.specs.declared.members.Layout.the-variants as L
-use Rattle.parts.specs.Requests.{soleOf}
 use Rattle.parts.proofs.Laws.Room.{slotCost, slotsCost, layout-room, cost-object}
 use Rattle.parts.proofs.Laws.Fits.{wrong-read, then-inv, only-inv, pick-inv, characters-fit}
-use Rattle.parts.proofs.Laws.Requests.Sole.{theOne, sole-only, sole-cost}
+use Rattle.parts.proofs.Laws.Requests.Sole.{soleOf, theOne, sole-only, sole-cost}
 use Rattle.policy.proofs.Laws.Requests.Context.{contextIn, contextWithin}
 
 -- ---- one member

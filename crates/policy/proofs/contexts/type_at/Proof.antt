@@ -1,7 +1,7 @@
--- An absent member names no type; the two words are tried in their turn.
-use mathlib.Core.Path.{sym, ap, _∙_}
-use Rattle.parts.specs.Requests.{typeOf}
-use Rattle.parts.proofs.Laws.Requests.Tests.{type-text, type-number, type-none}
+-- An absent member names no type; one that is there is asked where it stands.
+use mathlib.Core.Path.{sym, ap, _∙_, subst}
+use Rattle.parts.specs.Requests.{typeOf, TypesTo}
+use Rattle.parts.specs.declared.words.Typed.the-variants as T
 use Rattle.parts.proofs.Laws.Requests.Members.{placed-absent, placed-found}
 use borrow.Author.Needs.{needs}
 use Rattle.policy.proofs.contexts.type_at.Statement.{statement}
@@ -10,67 +10,37 @@ use Rattle.policy.proofs.contexts.type_at.Tie as tie
 returns : tie.Need-returns
 returns c = λ x p. sym (ap typeOf (placed-absent p (c .if1 .taken)))
 
-slice-aggregate-is-word : tie.Need-slice-aggregate-is-word
-slice-aggregate-is-word c = search needs
+type-at-requires : tie.Need-type-at-requires
+type-at-requires c κs =
+    let f = placed-found (c .before .before .pre .is) (c .if1 .left) in record { what = f .what; stop = f .stop; is = f .at }
 
-is-word-requires : tie.Need-is-word-requires
-is-word-requires c κs =
-    let start = c .before .before .before in
-    let f = placed-found (start .pre .is) (c .before .if1 .left) in record {
-      what = f .what;
-      stop = f .stop;
-      is =
-          f .at;
-    }
+enum-known-k : tie.Need-enum-known-k
+enum-known-k c = search needs
+
+enum-told : tie.Need-enum-told
+enum-told c = search needs
 
 returns-2 : tie.Need-returns-2
 returns-2 c =
-    let at-if1 = c .before .before .before in
-    λ x p. let f = placed-found p (at-if1 .if1 .left) in
-    sym (ap typeOf (f .is) ∙ type-text (f .what) (sym (c .before .is-word .ensures _ _ (f .at)) ∙ c .if2 .taken))
-
-slice-aggregate-is-word-2 : tie.Need-slice-aggregate-is-word-2
-slice-aggregate-is-word-2 c = search needs
-
-is-word-requires-2 : tie.Need-is-word-requires-2
-is-word-requires-2 c κs =
-    let at-if1 = c .before .before .before .before in
-    let start = at-if1 .before .before in
-    let f = placed-found (start .pre .is) (at-if1 .if1 .left) in record {
-      what = f .what;
-      stop = f .stop;
-      is = f .at;
-    }
+    λ x p. let f = placed-found p (c .before .before .before .before .if1 .left) in
+    let n : TypesTo (f .what) (f .stop) (T.Is (c .before .k .given .0 .0) (c .before .k .given .0 .1 .0)) =
+    subst (TypesTo (f .what) (f .stop)) (c .before .k .given .1) (c .before .before .before .type-at .ensures _ _ (f .at)) in
+    n .is ∙ sym (ap typeOf (f .is))
 
 returns-3 : tie.Need-returns-3
 returns-3 c =
-    let at-if2 = c .before .before .before in
-    let at-is-word = at-if2 .before in
-    let at-if1 = at-is-word .before .before in
-    λ x p. let f = placed-found p (at-if1 .if1 .left) in
-    sym (ap typeOf (f .is) ∙ type-number (f .what) (sym (at-is-word .is-word .ensures _ _ (f .at))
-    ∙ at-if2 .if2 .left)
-    (sym (c .before .is-word2 .ensures _ _ (f .at)) ∙ c .if3 .taken))
-
-returns-4 : tie.Need-returns-4
-returns-4 c =
-    let at-if2 = c .before .before .before in
-    let at-is-word = at-if2 .before in
-    let at-if1 = at-is-word .before .before in
-    λ x p. let f = placed-found p (at-if1 .if1 .left) in
-    sym (ap typeOf (f .is) ∙ type-none (f .what) (sym (at-is-word .is-word .ensures _ _ (f .at))
-    ∙ at-if2 .if2 .left)
-    (sym (c .before .is-word2 .ensures _ _ (f .at)) ∙ c .if3 .left))
+    λ x p. let f = placed-found p (c .before .before .before .if1 .left) in
+    let n : TypesTo (f .what) (f .stop) T.Wrong =
+    subst (TypesTo (f .what) (f .stop)) (c .enum-told .given .1) (c .before .before .type-at .ensures _ _ (f .at)) in
+    sym (ap typeOf (f .is) ∙ n)
 
 pub type-at-spec : {M : Type 1} → statement M
 type-at-spec =
     tie.close
     (tie.spec
     returns
-    slice-aggregate-is-word
-    is-word-requires
+    type-at-requires
+    enum-known-k
+    enum-told
     returns-2
-    slice-aggregate-is-word-2
-    is-word-requires-2
-    returns-3
-    returns-4)
+    returns-3)

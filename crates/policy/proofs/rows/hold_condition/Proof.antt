@@ -6,7 +6,7 @@ use borrow.Author.Tests.{not-true, not-false}
 use Rattle.held.specs.Held.{heldRow}
 use Rattle.syntax.specs.PolicyLayout.{operatorsIn, conditionOf}
 use Rattle.parts.specs.Holding.{isObject}
-use Rattle.parts.proofs.Laws.Formed.{gathers-several, gathers-wrong}
+use Rattle.parts.proofs.Laws.Formed.{lists-several, lists-wrong}
 use Rattle.parts.proofs.Laws.Several.{kind-told, is-object, object-holdable, object-stands, gathered-few}
 use Rattle.parts.proofs.Laws.Several.{row-some, cost-two}
 use Rattle.policy.proofs.Laws.Groups.{object-left, object-none, object-laid}
@@ -56,7 +56,7 @@ same-length c =
     let at-is-object = at-if1 .before in
     let at-kind-at = at-is-object .before in
     let start = at-kind-at .before .before .before in
-    (gathers-wrong heldRow (start .args .run .now) _ _ _
+    (lists-wrong heldRow (start .args .run .now) _ _ _ _
     (at-hold-operators .hold-operators .ensures _ _
     (object-stands (start .pre .is) ((kind-told isObject (at-kind-at .kind-at .ensures)
     (at-is-object .is-object .ensures) (not-false (at-is-object .is-object .result) (at-if1 .if1 .left))) _ _
@@ -72,7 +72,7 @@ returns-2 c =
     λ t e p. object-left conditionOf operatorsIn condition-inside
     (is-object t ((kind-told isObject (at-kind-at .kind-at .ensures) (at-is-object .is-object .ensures)
     (not-false (at-is-object .is-object .result) (at-if1 .if1 .left))) t e p) .is)
-    (gathers-wrong heldRow (start .args .run .now) _ _ _
+    (lists-wrong heldRow (start .args .run .now) _ _ _ _
     (at-hold-operators .hold-operators .ensures _ _
     (object-stands p ((kind-told isObject (at-kind-at .kind-at .ensures) (at-is-object .is-object .ensures)
     (not-false (at-is-object .is-object .result) (at-if1 .if1 .left))) t e p))) (c .enum-told .given .1))
@@ -85,11 +85,11 @@ same-length-2 c =
     let at-is-object = at-if1 .before in
     let at-kind-at = at-is-object .before in
     let start = at-kind-at .before .before .before in
-    (gathers-several heldRow (start .args .run .now) _ _ _
+    (lists-several heldRow (start .args .run .now) _ _ _ _
     (at-hold-operators .hold-operators .ensures _ _
     (object-stands (start .pre .is) ((kind-told isObject (at-kind-at .kind-at .ensures)
     (at-is-object .is-object .ensures) (not-false (at-is-object .is-object .result) (at-if1 .if1 .left))) _ _
-    (start .pre .is)))) (at-c .c .given .1)) .extends .size
+    (start .pre .is)))) (at-c .c .given .1) .0) .extends .size
 
 returns-3 : tie.Need-returns-3
 returns-3 c =
@@ -102,10 +102,10 @@ returns-3 c =
     λ t e p. object-none conditionOf operatorsIn condition-inside
     (is-object t ((kind-told isObject (at-kind-at .kind-at .ensures) (at-is-object .is-object .ensures)
     (not-false (at-is-object .is-object .result) (at-if1 .if1 .left))) t e p) .is)
-    (gathers-several heldRow (start .args .run .now) _ _ _
+    (lists-several heldRow (start .args .run .now) _ _ _ _
     (at-hold-operators .hold-operators .ensures _ _
     (object-stands p ((kind-told isObject (at-kind-at .kind-at .ensures) (at-is-object .is-object .ensures)
-    (not-false (at-is-object .is-object .result) (at-if1 .if1 .left))) t e p))) (at-c .c .given .1)) (c .if2 .taken)
+    (not-false (at-is-object .is-object .result) (at-if1 .if1 .left))) t e p))) (at-c .c .given .1) .0) (c .if2 .taken)
 
 cast-run : tie.Need-cast-run
 cast-run c =
@@ -122,12 +122,12 @@ cast-run c =
           ((kind-told isObject (at-kind-at .kind-at .ensures) (at-is-object .is-object .ensures)
           (not-false (at-is-object .is-object .result) (at-if1 .if1 .left))) _ _ (start .pre .is)),
     ))
-    (gathers-several heldRow (start .args .run .now) _ _ _
+    (lists-several heldRow (start .args .run .now) _ _ _ _
     (at-hold-operators .hold-operators .ensures _ _
     (object-stands (start .pre .is) ((kind-told isObject (at-kind-at .kind-at .ensures)
     (at-is-object .is-object .ensures) (not-false (at-is-object .is-object .result) (at-if1 .if1 .left))) _ _
-    (start .pre .is)))) (at-c .c .given .1)) in
-    let k : at-c .c .given .0 .1 .0 ≤ 16384 = omega (arith, few, start .pre .roomy .bounded) in search needs
+    (start .pre .is)))) (at-c .c .given .1) .0) in
+    let k : at-c .c .given .0 .1 .1 .0 ≤ 16384 = omega (arith, few, start .pre .roomy .bounded) in search needs
 
 mul-run : tie.Need-mul-run
 mul-run c = search needs
@@ -140,11 +140,11 @@ slice-write-run c =
     let at-is-object = at-if1 .before in
     let at-kind-at = at-is-object .before in
     let start = at-kind-at .before .before .before in
-    let g = (gathers-several heldRow (start .args .run .now) _ _ _
+    let g = (lists-several heldRow (start .args .run .now) _ _ _ _
     (at-hold-operators .hold-operators .ensures _ _
     (object-stands (start .pre .is) ((kind-told isObject (at-kind-at .kind-at .ensures)
     (at-is-object .is-object .ensures) (not-false (at-is-object .is-object .result) (at-if1 .if1 .left))) _ _
-    (start .pre .is)))) (at-c .c .given .1)) in
+    (start .pre .is)))) (at-c .c .given .1) .0) in
     omega (
       arith,
       g .extends .size,
@@ -172,11 +172,11 @@ same-length-3 c =
           ((kind-told isObject (at-kind-at .kind-at .ensures) (at-is-object .is-object .ensures)
           (not-false (at-is-object .is-object .result) (at-if1 .if1 .left))) _ _ (start .pre .is)),
     )) (c .if2 .left)
-    (gathers-several heldRow (start .args .run .now) _ _ _
+    (lists-several heldRow (start .args .run .now) _ _ _ _
     (at-hold-operators .hold-operators .ensures _ _
     (object-stands (start .pre .is) ((kind-told isObject (at-kind-at .kind-at .ensures)
     (at-is-object .is-object .ensures) (not-false (at-is-object .is-object .result) (at-if1 .if1 .left))) _ _
-    (start .pre .is)))) (at-c .c .given .1)) .extends .size
+    (start .pre .is)))) (at-c .c .given .1) .0) .extends .size
 
 returns-4 : tie.Need-returns-4
 returns-4 c =
@@ -186,20 +186,26 @@ returns-4 c =
     let at-is-object = at-if1 .before in
     let at-kind-at = at-is-object .before in
     let start = at-kind-at .before .before .before in
-    λ t e p. object-laid conditionOf operatorsIn condition-inside
-    (is-object t ((kind-told isObject (at-kind-at .kind-at .ensures) (at-is-object .is-object .ensures)
-    (not-false (at-is-object .is-object .result) (at-if1 .if1 .left))) t e p) .is)
-    (omega (
-      arith,
-      start .pre .roomy .room,
-      cost-two (start .pre .what)
-          ((kind-told isObject (at-kind-at .kind-at .ensures) (at-is-object .is-object .ensures)
-          (not-false (at-is-object .is-object .result) (at-if1 .if1 .left))) _ _ (start .pre .is)),
-    )) (c .if2 .left)
-    (gathers-several heldRow (start .args .run .now) _ _ _
-    (at-hold-operators .hold-operators .ensures _ _
-    (object-stands p ((kind-told isObject (at-kind-at .kind-at .ensures) (at-is-object .is-object .ensures)
-    (not-false (at-is-object .is-object .result) (at-if1 .if1 .left))) t e p))) (at-c .c .given .1))
+    λ t e p. (
+      object-laid conditionOf operatorsIn condition-inside
+          (is-object t ((kind-told isObject (at-kind-at .kind-at .ensures) (at-is-object .is-object .ensures)
+          (not-false (at-is-object .is-object .result) (at-if1 .if1 .left))) t e p) .is)
+          (omega (
+            arith,
+            start .pre .roomy .room,
+            cost-two (start .pre .what)
+                ((kind-told isObject (at-kind-at .kind-at .ensures) (at-is-object .is-object .ensures)
+                (not-false (at-is-object .is-object .result) (at-if1 .if1 .left))) _ _ (start .pre .is)),
+          )) (c .if2 .left)
+          (lists-several heldRow (start .args .run .now) _ _ _ _
+          (at-hold-operators .hold-operators .ensures _ _
+          (object-stands p ((kind-told isObject (at-kind-at .kind-at .ensures) (at-is-object .is-object .ensures)
+          (not-false (at-is-object .is-object .result) (at-if1 .if1 .left))) t e p))) (at-c .c .given .1) .0),
+      lists-several heldRow (start .args .run .now) _ _ _ _
+          (at-hold-operators .hold-operators .ensures _ _
+          (object-stands p ((kind-told isObject (at-kind-at .kind-at .ensures) (at-is-object .is-object .ensures)
+          (not-false (at-is-object .is-object .result) (at-if1 .if1 .left))) t e p))) (at-c .c .given .1) .1,
+    )
 
 pub hold-condition-spec : {M : Type 1} → statement M
 hold-condition-spec =

@@ -6,7 +6,7 @@ use Rattle.held.specs.Held.{heldRow}
 use Rattle.parts.specs.Spoken.{operatorIs}
 use Rattle.syntax.specs.PolicyLayout.{rowsOf}
 use Rattle.parts.specs.Holding.{isObject}
-use Rattle.parts.proofs.Laws.Formed.{gathers-several, gathers-wrong}
+use Rattle.parts.proofs.Laws.Formed.{lists-several, lists-wrong}
 use Rattle.parts.proofs.Laws.Several.{kind-told, is-object, object-holdable, object-stands}
 use Rattle.policy.proofs.Laws.Groups.{rows-inside, object-left, object-none, object-some}
 use borrow.Author.Needs.{needs}
@@ -52,7 +52,7 @@ same-length c =
     let at-is-object = at-if1 .before in
     let at-kind-at = at-is-object .before in
     let start = at-kind-at .before .before .before in
-    (gathers-wrong heldRow (start .args .run .now) _ _ _
+    (lists-wrong heldRow (start .args .run .now) _ _ _ _
     (at-hold-rows .hold-rows .ensures _ _ (object-stands (start .pre .is)
     ((kind-told isObject (at-kind-at .kind-at .ensures) (at-is-object .is-object .ensures)
     (not-false (at-is-object .is-object .result) (at-if1 .if1 .left))) _ _ (start .pre .is))))
@@ -68,7 +68,7 @@ returns-2 c =
     λ t e p. object-left (rowsOf (operatorIs (start .args .o))) _ (rows-inside (operatorIs (start .args .o)))
     (is-object t ((kind-told isObject (at-kind-at .kind-at .ensures) (at-is-object .is-object .ensures)
     (not-false (at-is-object .is-object .result) (at-if1 .if1 .left))) t e p) .is)
-    (gathers-wrong heldRow (start .args .run .now) _ _ _
+    (lists-wrong heldRow (start .args .run .now) _ _ _ _
     (at-hold-rows .hold-rows .ensures _ _ (object-stands p
     ((kind-told isObject (at-kind-at .kind-at .ensures) (at-is-object .is-object .ensures)
     (not-false (at-is-object .is-object .result) (at-if1 .if1 .left))) t e p))) (c .enum-told .given .1))
@@ -81,10 +81,10 @@ same-length-2 c =
     let at-is-object = at-if1 .before in
     let at-kind-at = at-is-object .before in
     let start = at-kind-at .before .before .before in
-    (gathers-several heldRow (start .args .run .now) _ _ _
+    (lists-several heldRow (start .args .run .now) _ _ _ _
     (at-hold-rows .hold-rows .ensures _ _ (object-stands (start .pre .is)
     ((kind-told isObject (at-kind-at .kind-at .ensures) (at-is-object .is-object .ensures)
-    (not-false (at-is-object .is-object .result) (at-if1 .if1 .left))) _ _ (start .pre .is)))) (at-c .c .given .1))
+    (not-false (at-is-object .is-object .result) (at-if1 .if1 .left))) _ _ (start .pre .is)))) (at-c .c .given .1) .0)
     .extends .size
 
 returns-3 : tie.Need-returns-3
@@ -98,10 +98,10 @@ returns-3 c =
     λ t e p. object-none (rowsOf (operatorIs (start .args .o))) _ (rows-inside (operatorIs (start .args .o)))
     (is-object t ((kind-told isObject (at-kind-at .kind-at .ensures) (at-is-object .is-object .ensures)
     (not-false (at-is-object .is-object .result) (at-if1 .if1 .left))) t e p) .is)
-    (gathers-several heldRow (start .args .run .now) _ _ _
+    (lists-several heldRow (start .args .run .now) _ _ _ _
     (at-hold-rows .hold-rows .ensures _ _ (object-stands p
     ((kind-told isObject (at-kind-at .kind-at .ensures) (at-is-object .is-object .ensures)
-    (not-false (at-is-object .is-object .result) (at-if1 .if1 .left))) t e p))) (at-c .c .given .1)) (c .if2 .taken)
+    (not-false (at-is-object .is-object .result) (at-if1 .if1 .left))) t e p))) (at-c .c .given .1) .0) (c .if2 .taken)
 
 same-length-3 : tie.Need-same-length-3
 same-length-3 c =
@@ -111,10 +111,10 @@ same-length-3 c =
     let at-is-object = at-if1 .before in
     let at-kind-at = at-is-object .before in
     let start = at-kind-at .before .before .before in
-    (gathers-several heldRow (start .args .run .now) _ _ _
+    (lists-several heldRow (start .args .run .now) _ _ _ _
     (at-hold-rows .hold-rows .ensures _ _ (object-stands (start .pre .is)
     ((kind-told isObject (at-kind-at .kind-at .ensures) (at-is-object .is-object .ensures)
-    (not-false (at-is-object .is-object .result) (at-if1 .if1 .left))) _ _ (start .pre .is)))) (at-c .c .given .1))
+    (not-false (at-is-object .is-object .result) (at-if1 .if1 .left))) _ _ (start .pre .is)))) (at-c .c .given .1) .0)
     .extends .size
 
 returns-4 : tie.Need-returns-4
@@ -125,13 +125,19 @@ returns-4 c =
     let at-is-object = at-if1 .before in
     let at-kind-at = at-is-object .before in
     let start = at-kind-at .before .before .before in
-    λ t e p. object-some (rowsOf (operatorIs (start .args .o))) _ (rows-inside (operatorIs (start .args .o)))
-    (is-object t ((kind-told isObject (at-kind-at .kind-at .ensures) (at-is-object .is-object .ensures)
-    (not-false (at-is-object .is-object .result) (at-if1 .if1 .left))) t e p) .is)
-    (gathers-several heldRow (start .args .run .now) _ _ _
-    (at-hold-rows .hold-rows .ensures _ _ (object-stands p
-    ((kind-told isObject (at-kind-at .kind-at .ensures) (at-is-object .is-object .ensures)
-    (not-false (at-is-object .is-object .result) (at-if1 .if1 .left))) t e p))) (at-c .c .given .1)) (c .if2 .left)
+    λ t e p. (
+      object-some (rowsOf (operatorIs (start .args .o))) _ (rows-inside (operatorIs (start .args .o)))
+          (is-object t ((kind-told isObject (at-kind-at .kind-at .ensures) (at-is-object .is-object .ensures)
+          (not-false (at-is-object .is-object .result) (at-if1 .if1 .left))) t e p) .is)
+          (lists-several heldRow (start .args .run .now) _ _ _ _
+          (at-hold-rows .hold-rows .ensures _ _ (object-stands p
+          ((kind-told isObject (at-kind-at .kind-at .ensures) (at-is-object .is-object .ensures)
+          (not-false (at-is-object .is-object .result) (at-if1 .if1 .left))) t e p))) (at-c .c .given .1) .0) (c .if2 .left),
+      lists-several heldRow (start .args .run .now) _ _ _ _
+          (at-hold-rows .hold-rows .ensures _ _ (object-stands p
+          ((kind-told isObject (at-kind-at .kind-at .ensures) (at-is-object .is-object .ensures)
+          (not-false (at-is-object .is-object .result) (at-if1 .if1 .left))) t e p))) (at-c .c .given .1) .1,
+    )
 
 pub hold-group-spec : {M : Type 1} → statement M
 hold-group-spec =

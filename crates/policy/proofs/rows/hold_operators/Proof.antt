@@ -5,11 +5,11 @@ use native.Mathlib.Omega.{arith}
 use lib.ListN.{getD}
 use Rattle.held.specs.Held.{heldRow, operatorNumber}
 use Rattle.parts.specs.Spoken.{operatorIs}
-use Rattle.parts.proofs.Laws.Formed.{gathers-several, gathers-wrong}
+use Rattle.parts.proofs.Laws.Formed.{lists-several, lists-wrong}
 use Rattle.parts.proofs.Laws.Walking.{leftOf}
 use Rattle.policy.proofs.Laws.Groups.{number-small}
-use Rattle.policy.proofs.Laws.Operators.{Operators, operators-start, operators-end, group-unknown, known}
-use Rattle.policy.proofs.Laws.Operators.{group-left, here, here-holdable, here-standing, here-continuing}
+use Rattle.policy.proofs.Laws.Operators.{Operators, operators-start, operators-end, operators-past, group-unknown, known}
+use Rattle.policy.proofs.Laws.Operators.{group-left, here, here-holdable, here-continuing}
 use Rattle.policy.proofs.Laws.Operators.{here-less, operators-wrong, operators-twice, operators-size}
 use Rattle.policy.proofs.Laws.Operators.{operators-few, operators-more}
 use borrow.Author.Needs.{needs}
@@ -36,15 +36,6 @@ loop-holds c = operators-start (c .before .before .before .pre) _ (c .first-memb
 
 enum-known-m : tie.Need-enum-known-m Inv-loop μ-loop
 enum-known-m c = search needs
-
-enum-told : tie.Need-enum-told Inv-loop μ-loop
-enum-told c = search needs
-
-same-length : tie.Need-same-length Inv-loop μ-loop
-same-length c = (c .before .before .loop .inv) .going .sofar .extends .size
-
-returns : tie.Need-returns Inv-loop μ-loop
-returns c = operators-end (c .before .before .loop .inv) _ (c .enum-told .given .1)
 
 sub-operator-named : tie.Need-sub-operator-named Inv-loop μ-loop
 sub-operator-named c = omega (
@@ -73,18 +64,18 @@ operator-named-requires c κs = search needs
 enum-known-w : tie.Need-enum-known-w Inv-loop μ-loop
 enum-known-w c = search needs
 
-enum-told-2 : tie.Need-enum-told-2 Inv-loop μ-loop
-enum-told-2 c = search needs
+enum-told : tie.Need-enum-told Inv-loop μ-loop
+enum-told c = search needs
 
-same-length-2 : tie.Need-same-length-2 Inv-loop μ-loop
-same-length-2 c = (c .before .before .before .before .before .before .before .loop .inv) .going .sofar .extends .size
+same-length : tie.Need-same-length Inv-loop μ-loop
+same-length c = (c .before .before .before .before .before .before .before .loop .inv) .going .sofar .extends .size
 
-returns-2 : tie.Need-returns-2 Inv-loop μ-loop
-returns-2 c = operators-wrong (c .before .before .before .before .before .before .before .loop .inv) _ _ _
+returns : tie.Need-returns Inv-loop μ-loop
+returns c = operators-wrong (c .before .before .before .before .before .before .before .loop .inv) _ _ _
     ((c .before .before .before .before .before .m .given) .1) (record {
       size = refl;
       said = group-unknown _ _
-          (c .before .before .operator-named .ensures) (c .enum-told2 .given .1);
+          (c .before .before .operator-named .ensures) (c .enum-told .given .1);
     })
 
 operator-number-requires : tie.Need-operator-number-requires Inv-loop μ-loop
@@ -106,13 +97,13 @@ array-read-if1 c = omega (
   (c .before .before .before .before .before .before .before .before .before .loop .inv) .seen .size,
 )
 
-same-length-3 : tie.Need-same-length-3 Inv-loop μ-loop
-same-length-3 c =
+same-length-2 : tie.Need-same-length-2 Inv-loop μ-loop
+same-length-2 c =
     let at-loop = c .before .before .before .before .before .before .before .before .before .before in
     (at-loop .loop .inv) .going .sofar .extends .size
 
-returns-3 : tie.Need-returns-3 Inv-loop μ-loop
-returns-3 c =
+returns-2 : tie.Need-returns-2 Inv-loop μ-loop
+returns-2 c =
     let at-w = c .before .before .before in
     let at-operator-named = at-w .before .before in
     let at-m = at-operator-named .before .before .before in
@@ -142,20 +133,20 @@ hold-group-requires c κs = here-holdable
 enum-known-c : tie.Need-enum-known-c Inv-loop μ-loop
 enum-known-c c = search needs
 
-enum-told-3 : tie.Need-enum-told-3 Inv-loop μ-loop
-enum-told-3 c = search needs
+enum-told-2 : tie.Need-enum-told-2 Inv-loop μ-loop
+enum-told-2 c = search needs
 
-same-length-4 : tie.Need-same-length-4 Inv-loop μ-loop
-same-length-4 c =
+same-length-3 : tie.Need-same-length-3 Inv-loop μ-loop
+same-length-3 c =
     let at-hold-group = c .before .before .before .before in
     let at-m = at-hold-group .before .before .before .before .before .before .before .before .before .before in
     let at-loop = at-m .before .before in
-    (gathers-wrong heldRow _ _ _ _ (at-hold-group .hold-group .ensures _ _
-    ((here (at-loop .loop .inv) _ _ _ ((at-m .m .given) .1)) .stands)) (c .enum-told3 .given .1)) .size ∙
+    (lists-wrong heldRow _ _ _ _ _ (at-hold-group .hold-group .ensures _ _
+    ((here (at-loop .loop .inv) _ _ _ ((at-m .m .given) .1)) .stands)) (c .enum-told2 .given .1)) .size ∙
     (at-loop .loop .inv) .going .sofar .extends .size
 
-returns-4 : tie.Need-returns-4 Inv-loop μ-loop
-returns-4 c =
+returns-3 : tie.Need-returns-3 Inv-loop μ-loop
+returns-3 c =
     let at-hold-group = c .before .before .before .before in
     let at-w = at-hold-group .before .before .before .before .before in
     let at-operator-named = at-w .before .before in
@@ -164,8 +155,8 @@ returns-4 c =
     operators-wrong (at-loop .loop .inv) _ _ _ ((at-m .m .given) .1)
     (group-left _ _ (known _ ((here (at-loop .loop .inv) _ _ _ ((at-m .m .given) .1)) .head)
     (at-operator-named .operator-named .ensures) (at-w .w .given .1))
-    (gathers-wrong heldRow _ _ _ _ (at-hold-group .hold-group .ensures _ _
-    ((here (at-loop .loop .inv) _ _ _ ((at-m .m .given) .1)) .stands)) (c .enum-told3 .given .1)))
+    (lists-wrong heldRow _ _ _ _ _ (at-hold-group .hold-group .ensures _ _
+    ((here (at-loop .loop .inv) _ _ _ ((at-m .m .given) .1)) .stands)) (c .enum-told2 .given .1)))
 
 add-n : tie.Need-add-n Inv-loop μ-loop
 add-n c =
@@ -177,37 +168,33 @@ add-n c =
     let few = operators-few (at-loop .loop .inv) _ _ _ ((at-m .m .given) .1)
     (known _ ((here (at-loop .loop .inv) _ _ _ ((at-m .m .given) .1)) .head)
     (at-operator-named .operator-named .ensures) (at-w .w .given .1))
-    (gathers-several heldRow _ _ _ _ (at-hold-group .hold-group .ensures _ _
-    ((here (at-loop .loop .inv) _ _ _ ((at-m .m .given) .1)) .stands)) (c .before .c .given .1)) in
+    (lists-several heldRow _ _ _ _ _ (at-hold-group .hold-group .ensures _ _
+    ((here (at-loop .loop .inv) _ _ _ ((at-m .m .given) .1)) .stands)) (c .before .c .given .1) .0) in
     search needs
-
-past-value-requires : tie.Need-past-value-requires Inv-loop μ-loop
-past-value-requires c κs =
-    let at-m = c .before .before .before .before .before .before .before .before .before .before .before .before
-    .before .before .before in
-    let at-loop = at-m .before .before in
-    here-standing (at-loop .loop .inv) _ _ _ ((at-m .m .given) .1)
 
 next-member-requires : tie.Need-next-member-requires Inv-loop μ-loop
 next-member-requires c κs =
-    let at-m = c .before .before .before .before .before .before .before .before .before .before .before .before
-    .before .before .before .before in
+    let at-c = c .before in
+    let at-hold-group = at-c .before .before .before .before in
+    let at-m = at-hold-group .before .before .before .before .before .before .before .before .before .before in
     let at-loop = at-m .before .before in
     here-continuing (at-loop .loop .inv) _ _ _ ((at-m .m .given) .1)
-    (c .past-value .ensures _ _ ((here (at-loop .loop .inv) _ _ _ ((at-m .m .given) .1)) .stands))
+    (lists-several heldRow _ _ _ _ _ (at-hold-group .hold-group .ensures _ _
+    (here (at-loop .loop .inv) _ _ _ ((at-m .m .given) .1) .stands)) (at-c .c .given .1) .1)
 
 loop-less : tie.Need-loop-less Inv-loop μ-loop
 loop-less c =
-    let at-m = c .before .before .before .before .before .before .before .before .before .before .before .before
-    .before .before .before .before .before in
+    let at-c = c .before .before in
+    let at-hold-group = at-c .before .before .before .before in
+    let at-m = at-hold-group .before .before .before .before .before .before .before .before .before .before in
     let at-loop = at-m .before .before in
     here-less (at-loop .loop .inv) _ _ _ ((at-m .m .given) .1) _ _
-    (c .before .past-value .ensures _ _ ((here (at-loop .loop .inv) _ _ _ ((at-m .m .given) .1)) .stands))
-    (c .next-member .ensures)
+    (lists-several heldRow _ _ _ _ _ (at-hold-group .hold-group .ensures _ _
+    (here (at-loop .loop .inv) _ _ _ ((at-m .m .given) .1) .stands)) (at-c .c .given .1) .1) (c .next-member .ensures)
 
 loop-again : tie.Need-loop-again Inv-loop μ-loop
 loop-again c =
-    let at-c = c .before .before .before in
+    let at-c = c .before .before in
     let at-hold-group = at-c .before .before .before .before in
     let at-if1 = at-hold-group .before .before in
     let at-operator-number = at-if1 .before in
@@ -218,11 +205,23 @@ loop-again c =
     operators-more (at-loop .loop .inv) _ _ _ ((at-m .m .given) .1)
     (known _ ((here (at-loop .loop .inv) _ _ _ ((at-m .m .given) .1)) .head)
     (at-operator-named .operator-named .ensures) (at-w .w .given .1))
-    (gathers-several heldRow _ _ _ _ (at-hold-group .hold-group .ensures _ _
-    ((here (at-loop .loop .inv) _ _ _ ((at-m .m .given) .1)) .stands)) (at-c .c .given .1)) _
+    (lists-several heldRow _ _ _ _ _ (at-hold-group .hold-group .ensures _ _
+    ((here (at-loop .loop .inv) _ _ _ ((at-m .m .given) .1)) .stands)) (at-c .c .given .1) .0) _
     (at-operator-number .operator-number .ensures) (at-if1 .if1 .left) _ _
-    (c .before .past-value .ensures _ _ ((here (at-loop .loop .inv) _ _ _ ((at-m .m .given) .1)) .stands))
-    (c .next-member .ensures)
+    (lists-several heldRow _ _ _ _ _ (at-hold-group .hold-group .ensures _ _
+    (here (at-loop .loop .inv) _ _ _ ((at-m .m .given) .1) .stands)) (at-c .c .given .1) .1) (c .next-member .ensures)
+
+enum-known-m-2 : tie.Need-enum-known-m-2 Inv-loop μ-loop
+enum-known-m-2 c = search needs
+
+same-length-4 : tie.Need-same-length-4 Inv-loop μ-loop
+same-length-4 c = c .before .before .before .loop .inv .going .sofar .extends .size
+
+returns-4 : tie.Need-returns-4 Inv-loop μ-loop
+returns-4 c =
+    let inv = c .before .before .before .loop .inv in
+    let over = c .before .m2 .given .1 in
+    λ ms e p. (operators-end inv _ over ms e p, operators-past inv _ over ms e p)
 
 pub hold-operators-spec : {M : Type 1} → statement M
 hold-operators-spec =
@@ -233,32 +232,31 @@ hold-operators-spec =
     first-member-requires
     loop-holds
     enum-known-m
-    enum-told
-    same-length
-    returns
     sub-operator-named
     part-operator-named-start
     part-operator-named-end
     operator-named-requires
     enum-known-w
-    enum-told-2
-    same-length-2
-    returns-2
+    enum-told
+    same-length
+    returns
     operator-number-requires
     cast-k
     mul-if1
     array-read-if1
-    same-length-3
-    returns-3
+    same-length-2
+    returns-2
     mul-seen
     array-write-seen
     hold-group-requires
     enum-known-c
-    enum-told-3
-    same-length-4
-    returns-4
+    enum-told-2
+    same-length-3
+    returns-3
     add-n
-    past-value-requires
     next-member-requires
     loop-less
-    loop-again)
+    loop-again
+    enum-known-m-2
+    same-length-4
+    returns-4)

@@ -3,7 +3,7 @@ use mathlib.Core.Path.{_∙_}
 use native.Mathlib.Omega.{arith}
 use Rattle.held.specs.Held.{heldText, heldList, heldValue}
 use Rattle.parts.specs.Spoken.{operatorIs}
-use Rattle.parts.proofs.Laws.Formed.{holds-past, holds-wrong}
+use Rattle.parts.proofs.Laws.Formed.{holds-past, holds-wrong, ends-past, ends-wrong}
 use Rattle.policy.proofs.Laws.Rows.{row-left, key-place, row-entries-left, row-laid}
 use borrow.Author.Needs.{needs}
 use Rattle.policy.proofs.rows.hold_row.Statement.{statement}
@@ -82,7 +82,7 @@ same-length-2 c =
     let at-h = at-hold-entries .before .before .before in
     let at-hold-key = at-h .before .before .before .before in
     let start = at-hold-key .before .before .before .before .before in
-    holds-wrong (heldList heldValue) _ _ _ _ (at-hold-entries .hold-entries .ensures _ _ (start .pre .is))
+    ends-wrong (heldList heldValue) _ _ _ _ _ (at-hold-entries .hold-entries .ensures _ _ (start .pre .is))
     (c .enum-told2 .given .1) .size ∙ (holds-past heldText (start .args .run .now) _ _ _
     (at-hold-key .hold-key .ensures) (at-h .h .given .1)) .extends .size
 
@@ -94,7 +94,7 @@ returns-2 c =
     let start = at-hold-key .before .before .before .before .before in
     λ t e p. row-entries-left (operatorIs (start .args .o)) _ t (start .args .at)
     (holds-past heldText (start .args .run .now) _ _ _ (at-hold-key .hold-key .ensures) (at-h .h .given .1))
-    (holds-wrong (heldList heldValue) _ _ _ _ (at-hold-entries .hold-entries .ensures t e p)
+    (ends-wrong (heldList heldValue) _ _ _ _ _ (at-hold-entries .hold-entries .ensures t e p)
     (c .enum-told2 .given .1))
 
 operator-number-requires : tie.Need-operator-number-requires
@@ -112,8 +112,8 @@ slice-write-run c =
     let start = at-hold-key .before .before .before .before .before in
     let k = (holds-past heldText (start .args .run .now) _ _ _ (at-hold-key .hold-key .ensures) (at-h .h .given .1))
     in
-    let d = (holds-past (heldList heldValue) _ _ _ _ (at-hold-entries .hold-entries .ensures _ _ (start .pre .is))
-    (at-g .g .given .1)) in
+    let d = (ends-past (heldList heldValue) _ _ _ _ _ (at-hold-entries .hold-entries .ensures _ _ (start .pre .is))
+    (at-g .g .given .1) .0) in
     omega (arith, k .extends .size, d .extends .size, start .pre .roomy .room)
 
 same-length-3 : tie.Need-same-length-3
@@ -126,8 +126,8 @@ same-length-3 c =
     row-laid (operatorIs (start .args .o)) _ _ (start .args .at)
     (holds-past heldText (start .args .run .now) _ _ _ (at-hold-key .hold-key .ensures) (at-h .h .given .1)) _
     (c .operator-number .ensures) (omega (arith, start .pre .roomy .room))
-    (holds-past (heldList heldValue) _ _ _ _ (at-hold-entries .hold-entries .ensures _ _ (start .pre .is))
-    (at-g .g .given .1)) .extends .size
+    (ends-past (heldList heldValue) _ _ _ _ _ (at-hold-entries .hold-entries .ensures _ _ (start .pre .is))
+    (at-g .g .given .1) .0) .extends .size
 
 returns-3 : tie.Need-returns-3
 returns-3 c =
@@ -136,10 +136,13 @@ returns-3 c =
     let at-h = at-hold-entries .before .before .before in
     let at-hold-key = at-h .before .before .before .before in
     let start = at-hold-key .before .before .before .before .before in
-    λ t e p. row-laid (operatorIs (start .args .o)) _ t (start .args .at)
-    (holds-past heldText (start .args .run .now) _ _ _ (at-hold-key .hold-key .ensures) (at-h .h .given .1)) _
-    (c .operator-number .ensures) (omega (arith, start .pre .roomy .room))
-    (holds-past (heldList heldValue) _ _ _ _ (at-hold-entries .hold-entries .ensures t e p) (at-g .g .given .1))
+    λ t e p. (
+      row-laid (operatorIs (start .args .o)) _ t (start .args .at)
+          (holds-past heldText (start .args .run .now) _ _ _ (at-hold-key .hold-key .ensures) (at-h .h .given .1)) _
+          (c .operator-number .ensures) (omega (arith, start .pre .roomy .room))
+          (ends-past (heldList heldValue) _ _ _ _ _ (at-hold-entries .hold-entries .ensures t e p) (at-g .g .given .1) .0),
+      ends-past (heldList heldValue) _ _ _ _ _ (at-hold-entries .hold-entries .ensures t e p) (at-g .g .given .1) .1,
+    )
 
 pub hold-row-spec : {M : Type 1} → statement M
 hold-row-spec =

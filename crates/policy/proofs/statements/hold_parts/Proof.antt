@@ -2,7 +2,7 @@
 use native.Mathlib.Omega.{arith}
 use Rattle.syntax.specs.PolicyLayout.{actionOf, resourceOf}
 use Rattle.held.specs.Held.{heldText, heldList, heldValue}
-use Rattle.parts.proofs.Laws.Formed.{holds-past, holds-wrong}
+use Rattle.parts.proofs.Laws.Formed.{holds-past, holds-wrong, ends-past, ends-wrong}
 use Rattle.parts.proofs.Laws.Fits.{action-fits, resource-fits}
 use Rattle.policy.proofs.Laws.StatementsParts.{texts-left, texts-laid, sid-place, entries-place}
 use Rattle.policy.proofs.Laws.StatementsParts.{sid-left, actions-left, resources-left, parts-holds}
@@ -70,7 +70,7 @@ returns-2 c =
     let second = c .before .before .before .before .hold-entries in
     let sid = holds-past heldText run _ _ _ (first .ensures i pi) (c .before .before .before .before .before .before
     .before .h .given .1) in
-    actions-left i x y z sid (texts-left actionOf x (holds-wrong (heldList heldValue) _ _ _ _
+    actions-left i x y z sid (texts-left actionOf x (ends-wrong (heldList heldValue) _ _ _ _ _
     (second .ensures x e px) (c .enum-told2 .given .1)))
 
 hold-entries-requires-2 : tie.Need-hold-entries-requires-2
@@ -84,8 +84,8 @@ hold-entries-requires-2 c κs =
     let second = c .before .before .before .before .before .before .hold-entries in
     let a = holds-past heldText run _ _ _ (first .ensures _ (pre .sid-is)) (c .before .before .before .before .before
     .before .before .before .before .h .given .1) in
-    let b = texts-laid actionOf _ (holds-past (heldList heldValue) _ _ _ _ (second .ensures _ _ (pre .action-is))
-    (c .before .before .g .given .1)) in
+    let b = texts-laid actionOf _ (ends-past (heldList heldValue) _ _ _ _ _ (second .ensures _ _ (pre .action-is))
+    (c .before .before .g .given .1) .0) in
     record {
       what = pre .resource;
       stop = pre .resource-stop;
@@ -124,9 +124,9 @@ returns-3 c =
     let third = c .before .before .before .before .hold-entries2 in
     let sid = holds-past heldText run _ _ _ (first .ensures i pi) (c .before .before .before .before .before .before
     .before .before .before .before .before .before .before .before .h .given .1) in
-    let actions = texts-laid actionOf x (holds-past (heldList heldValue) _ _ _ _ (second .ensures x e px)
-    (c .before .before .before .before .before .before .before .g .given .1)) in
-    resources-left i x y z sid actions (texts-left resourceOf y (holds-wrong (heldList heldValue) _ _ _ _
+    let actions = texts-laid actionOf x (ends-past (heldList heldValue) _ _ _ _ _ (second .ensures x e px)
+    (c .before .before .before .before .before .before .before .g .given .1) .0) in
+    resources-left i x y z sid actions (texts-left resourceOf y (ends-wrong (heldList heldValue) _ _ _ _ _
     (third .ensures y f py) (c .enum-told3 .given .1)))
 
 hold-condition-at-requires : tie.Need-hold-condition-at-requires
@@ -142,10 +142,10 @@ hold-condition-at-requires c κs =
     let third = c .before .before .before .before .before .before .hold-entries2 in
     let a = holds-past heldText run _ _ _ (first .ensures _ (pre .sid-is)) (c .before .before .before .before .before
     .before .before .before .before .before .before .before .before .before .before .before .h .given .1) in
-    let b = texts-laid actionOf _ (holds-past (heldList heldValue) _ _ _ _ (second .ensures _ _ (pre .action-is))
-    (c .before .before .before .before .before .before .before .before .before .g .given .1)) in
-    let d = texts-laid resourceOf _ (holds-past (heldList heldValue) _ _ _ _ (third .ensures _ _ (pre .resource-is))
-    (c .before .before .k .given .1)) in
+    let b = texts-laid actionOf _ (ends-past (heldList heldValue) _ _ _ _ _ (second .ensures _ _ (pre .action-is))
+    (c .before .before .before .before .before .before .before .before .before .g .given .1) .0) in
+    let d = texts-laid resourceOf _ (ends-past (heldList heldValue) _ _ _ _ _ (third .ensures _ _ (pre .resource-is))
+    (c .before .before .k .given .1) .0) in
     record {
       what = pre .condition;
       is = pre .condition-is;
@@ -182,11 +182,11 @@ returns-4 c =
     let sid = holds-past heldText run _ _ _ (first .ensures i pi) (c .before .before .before .before .before .before
     .before .before .before .before .before .before .before .before .before .before .before .before .before .h .given
     .1) in
-    let actions = texts-laid actionOf x (holds-past (heldList heldValue) _ _ _ _ (second .ensures x e px)
-    (c .before .before .before .before .before .before .before .before .before .before .before .before .g .given .1))
+    let actions = texts-laid actionOf x (ends-past (heldList heldValue) _ _ _ _ _ (second .ensures x e px)
+    (c .before .before .before .before .before .before .before .before .before .before .before .before .g .given .1) .0)
     in
-    let resources = texts-laid resourceOf y (holds-past (heldList heldValue) _ _ _ _ (third .ensures y f py)
-    (c .before .before .before .before .before .k .given .1)) in
+    let resources = texts-laid resourceOf y (ends-past (heldList heldValue) _ _ _ _ _ (third .ensures y f py)
+    (c .before .before .before .before .before .k .given .1) .0) in
     parts-holds i x y z sid actions resources _ (last .result) (last .ensures z pz)
 
 pub hold-parts-spec : {M : Type 1} → statement M

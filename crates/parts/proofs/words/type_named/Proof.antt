@@ -1,0 +1,39 @@
+-- The two words are tried in their turn.
+use mathlib.Core.Path.{sym, _∙_}
+use Rattle.parts.proofs.Laws.Spoken.{raw-text, raw-number, raw-none}
+use borrow.Author.Needs.{needs}
+use Rattle.parts.proofs.words.type_named.Statement.{statement}
+use Rattle.parts.proofs.words.type_named.Tie as tie
+
+slice-aggregate-same : tie.Need-slice-aggregate-same
+slice-aggregate-same c = search needs
+
+same-requires : tie.Need-same-requires
+same-requires c κs = search needs
+
+returns : tie.Need-returns
+returns c = sym (raw-text _ (sym (c .before .same .ensures) ∙ c .if1 .taken))
+
+slice-aggregate-same-2 : tie.Need-slice-aggregate-same-2
+slice-aggregate-same-2 c = search needs
+
+same-requires-2 : tie.Need-same-requires-2
+same-requires-2 c κs = search needs
+
+returns-2 : tie.Need-returns-2
+returns-2 c = sym (raw-number _ (sym (c .before .before .before .before .same .ensures) ∙ c .before .before .before .if1 .left) (sym (c .before .same2 .ensures) ∙ c .if2 .taken))
+
+returns-3 : tie.Need-returns-3
+returns-3 c = sym (raw-none _ (sym (c .before .before .before .before .same .ensures) ∙ c .before .before .before .if1 .left) (sym (c .before .same2 .ensures) ∙ c .if2 .left))
+
+pub type-named-spec : {M : Type 1} → statement M
+type-named-spec =
+    tie.close
+    (tie.spec
+    slice-aggregate-same
+    same-requires
+    returns
+    slice-aggregate-same-2
+    same-requires-2
+    returns-2
+    returns-3)
