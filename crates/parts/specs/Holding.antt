@@ -1,8 +1,8 @@
 -- Holding: what stands in a lent run after something was held in it.
 --   Extends run run′ at xs p   run′ is run up to place at, then xs, up to place p; what lies behind p is not said
 --   Holds h run run′ at x r    what x reads lies in the run as h holds it; or x is wrong
---   Gathers h run run′ at x r  likewise for several things, with their count
---   HoldsTo .. e r, GathersTo .. e r   likewise, and what says x ends at e
+--   HoldsTo h run run′ at x e r     likewise, and what says x ends at e
+--   GathersTo h run run′ at x e r   likewise for several things, with their count
 --   pastOf r                   the answer without the end
 --   entryOf k t                the entry of a list of kind k that t is
 use mathlib.Core.Path.{_≡_}
@@ -24,8 +24,6 @@ use Rattle.parts.specs.declared.holding.Held.{Held}
 use Rattle.parts.specs.declared.holding.Held.the-variants as H
 use Rattle.parts.specs.declared.holding.Ended.{Ended}
 use Rattle.parts.specs.declared.holding.Ended.the-variants as N
-use Rattle.parts.specs.declared.holding.Counted.{Counted}
-use Rattle.parts.specs.declared.holding.Counted.the-variants as C
 use Rattle.parts.specs.declared.holding.Listed.{Listed}
 use Rattle.parts.specs.declared.holding.Listed.the-variants as L
 use Rattle.parts.specs.declared.entries.Entry.{Entry}
@@ -104,10 +102,6 @@ HoldsTo h run run′ at x e N.Wrong = Left run run′ x
 abbrev pub pastOf : Ended → Held
 pastOf (N.Past p q) = H.Past p
 pastOf N.Wrong = H.Wrong
-
-abbrev pub Gathers : {A : Type 0} → (A → List ℕ) → List ℕ → List ℕ → ℕ → Reading (List A) → Counted → Type 0
-Gathers h run run′ at x (C.Several p n) = Gathered h run run′ at x p n
-Gathers h run run′ at x C.Wrong = Left run run′ x
 
 abbrev pub GathersTo : {A : Type 0} → (A → List ℕ) → List ℕ → List ℕ → ℕ → Reading (List A) → ℕ → Listed → Type 0
 GathersTo h run run′ at x e (L.Several p q n) = (Gathered h run run′ at x p n) × (q ≡ e)

@@ -25,12 +25,6 @@ pub enum Ended {
     Wrong,
 }
 
-// So many things were held, up to this place; or one of them is not as it has to be.
-pub enum Counted {
-    Several { past: usize, count: usize },
-    Wrong,
-}
-
 // So many things were held, up to `past`, of a list that ends before `end` in the text; or one is not as it has to be.
 pub enum Listed {
     Several {
@@ -125,20 +119,6 @@ pub fn hold_raw(raw: &[u8], run: &mut [u32], at: usize) -> Held
     }
 }
 
-// The string that stands at a place.
-pub fn hold_text(s: &[u8], v: usize, run: &mut [u32], at: usize) -> Held
-    requires { ⌜ Holdable (now s) v (now run) at 0 ⌝ }
-    ensures { λ r. ⌜ ((t : Json) (e : ℕ) → Stands (now (s .entry)) t v e → Holds heldText (now (run .entry)) (now (run .exit)) at (charactersOf t) r) ⌝ }
-{
-    if !is_text(text::walk::kind_at(s, v)) {
-        return Held::Wrong;
-    }
-    let q = text::walk::quoted(s, v);
-    let from = q.from;
-    let to = q.to;
-    hold_raw(&s[from..to], run, at)
-}
-
 // The string that stands at a place, and where it ends.
 pub fn hold_string(s: &[u8], v: usize, run: &mut [u32], at: usize) -> Ended
     requires { ⌜ Holdable (now s) v (now run) at 0 ⌝ }
@@ -158,6 +138,14 @@ pub fn hold_string(s: &[u8], v: usize, run: &mut [u32], at: usize) -> Ended
         past: past,
         end: to + 1,
     }
+}
+
+// The string that stands at a place.
+pub fn hold_text(s: &[u8], v: usize, run: &mut [u32], at: usize) -> Held
+    requires { ⌜ Holdable (now s) v (now run) at 0 ⌝ }
+    ensures { λ r. ⌜ ((t : Json) (e : ℕ) → Stands (now (s .entry)) t v e → Holds heldText (now (run .entry)) (now (run .exit)) at (charactersOf t) r) ⌝ }
+{
+    past_of(hold_string(s, v, run, at))
 }
 
 // The number's two halves, the upper one marked; answers the place behind them.

@@ -291,7 +291,7 @@ fn hold_differing(s: &[u8], v: usize, run: &mut [u32], at: usize) -> Listed
 }
 
 // The context entries that stand at a place, behind their number.
-pub fn hold_listed(s: &[u8], v: usize, run: &mut [u32], at: usize) -> Ended
+fn hold_listed(s: &[u8], v: usize, run: &mut [u32], at: usize) -> Ended
     requires { ⌜ Holdable (now s) v (now run) at 1 ⌝ }
     ensures { λ r. ⌜ ((t : Json) (e : ℕ) → Stands (now (s .entry)) t v e → HoldsTo (heldList heldContext) (now (run .entry)) (now (run .exit)) at (contextsOf t) e r) ⌝ }
 {

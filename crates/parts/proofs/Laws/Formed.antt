@@ -11,13 +11,11 @@ use Rattle.chars.specs.Putting.{lay}
 use Rattle.syntax.specs.Forms.{Reading, wrong, read, symbolsOf, isResource}
 use Rattle.syntax.specs.Members.{then, only}
 use Rattle.held.specs.Held.{heldText}
-use Rattle.parts.specs.Holding.{Extends, Laid, Left, Holds, HoldsTo, Gathered, Gathers, GathersTo, Kept}
+use Rattle.parts.specs.Holding.{Extends, Laid, Left, Holds, HoldsTo, Gathered, GathersTo, Kept}
 use Rattle.parts.specs.declared.holding.Held.{Held}
 use Rattle.parts.specs.declared.holding.Held.the-variants.{Past, Wrong}
 use Rattle.parts.specs.declared.holding.Ended.{Ended}
 use Rattle.parts.specs.declared.holding.Ended.the-variants as N
-use Rattle.parts.specs.declared.holding.Counted.{Counted}
-use Rattle.parts.specs.declared.holding.Counted.the-variants as C
 use Rattle.parts.specs.declared.holding.Listed.{Listed}
 use Rattle.parts.specs.declared.holding.Listed.the-variants as L
 use Rattle.parts.proofs.Laws.Holding.{laid-extends}
@@ -54,16 +52,6 @@ pub lists-wrong :
     {A : Type 0} (h : A → List ℕ) (run run′ : List ℕ) (at : ℕ) (x : Reading (List A)) (e : ℕ) {r : Listed}
     → GathersTo h run run′ at x e r → r ≡ L.Wrong → Left run run′ x
 lists-wrong h run run′ at x e f z = subst (GathersTo h run run′ at x e) z f
-
-pub gathers-several :
-    {A : Type 0} (h : A → List ℕ) (run run′ : List ℕ) (at : ℕ) (x : Reading (List A)) {r : Counted} {p n : ℕ}
-    → Gathers h run run′ at x r → r ≡ C.Several p n → Gathered h run run′ at x p n
-gathers-several h run run′ at x f e = subst (Gathers h run run′ at x) e f
-
-pub gathers-wrong :
-    {A : Type 0} (h : A → List ℕ) (run run′ : List ℕ) (at : ℕ) (x : Reading (List A)) {r : Counted}
-    → Gathers h run run′ at x r → r ≡ C.Wrong → Left run run′ x
-gathers-wrong h run run′ at x f e = subst (Gathers h run run′ at x) e f
 
 -- ---- the run
 
