@@ -34,15 +34,6 @@ use text::walk;
 use text::walk::Element;
 use text::walk::Member;
 
-fn is_key_name(cs: &[u32]) -> bool
-    ensures { λ r. ⌜ r ≡ isKeyName (now (cs .entry)) ⌝ }
-{
-    if !forms::is_key(cs) {
-        return false;
-    }
-    cs.len() <= limits::KEY
-}
-
 // The key name that stands at a place.
 fn hold_name(s: &[u8], v: usize, run: &mut [u32], at: usize) -> Ended
     requires { ⌜ Holdable (now s) v (now run) at 0 ⌝ }
@@ -53,7 +44,7 @@ fn hold_name(s: &[u8], v: usize, run: &mut [u32], at: usize) -> Ended
         return Ended::Wrong;
     };
     let first = at + 1;
-    if !is_key_name(&run[first..past]) {
+    if !straight::forms::is_key_name(&run[first..past]) {
         return Ended::Wrong;
     }
     Ended::Past {
@@ -216,47 +207,6 @@ fn hold_context(s: &[u8], v: usize, run: &mut [u32], at: usize) -> Ended
     }
 }
 
-// The place behind the context entry that lies at a place.
-fn past_context(run: &[u32], at: usize) -> usize
-    requires { ⌜ Lying heldContext (now run) at ⌝ }
-    ensures { λ r. ⌜ ((x : Context) → Lies (now (run .entry)) at (heldContext x) → r ≡ at + length (heldContext x)) ⌝ }
-{
-    let v = at + 2 + run[at + 1] as usize;
-    if run[at] == 2 {
-        return v + 2;
-    }
-    v + 1 + run[v] as usize
-}
-
-// Have the context entries at two places the same key?
-fn same_context_at(run: &[u32], p: usize, q: usize) -> bool
-    requires { ⌜ (Lying heldContext (now run) p) × (Lying heldContext (now run) q) ⌝ }
-    ensures { λ r. ⌜ ((x y : Context) → Lies (now (run .entry)) p (heldContext x) → Lies (now (run .entry)) q (heldContext y) → r ≡ sameContext x y) ⌝ }
-{
-    let from = p + 2;
-    let to = from + run[p + 1] as usize;
-    let a = q + 2;
-    let b = a + run[q + 1] as usize;
-    forms::same_key(&run[from..to], &run[a..b])
-}
-
-// Has one of the n context entries from a place on the key of the entry at p?
-fn has_context_key(run: &[u32], at: usize, n: usize, p: usize) -> bool
-    requires { ⌜ (LyingMany heldContext (now run) at n) × (Lying heldContext (now run) p) ⌝ }
-    ensures { λ r. ⌜ ((xs : List Context) (x : Context) → n ≡ length xs → Lies (now (run .entry)) at (heldEach heldContext xs) → Lies (now (run .entry)) p (heldContext x) → r ≡ hasLike sameContext x xs) ⌝ }
-{
-    let mut q = at;
-    let mut i = 0usize;
-    while i < n {
-        if same_context_at(run, p, q) {
-            return true;
-        }
-        q = past_context(run, q);
-        i = i + 1;
-    }
-    false
-}
-
 // The context entries of the list that stands at a place, no two of them with one key.
 fn hold_differing(s: &[u8], v: usize, run: &mut [u32], at: usize) -> Listed
     requires { ⌜ HoldableList (now s) v (now run) at ⌝ }
@@ -279,7 +229,7 @@ fn hold_differing(s: &[u8], v: usize, run: &mut [u32], at: usize) -> Listed
                 let Ended::Past { past, end } = h else {
                     return Listed::Wrong;
                 };
-                if has_context_key(run, at, n, p) {
+                if straight::keys::has_context_key(run, at, n, p) {
                     return Listed::Wrong;
                 }
                 p = past;

@@ -1,4 +1,6 @@
 // A policy text and a record, any bytes: held in a lent run, or refused by number and place.
+ghost use Prim.Native.Nat.{_≤_};
+ghost use lib.ListN.{length};
 ghost use Rattle.syntax.specs.Limits.{policyBytes, recordBytes};
 ghost use Rattle.held.specs.Held.{held, heldRequest};
 ghost use Rattle.policy.specs.Reading.{policyRules, recordRules, Answers, Lent, Fit};
@@ -50,13 +52,11 @@ fn whole_record(s: &[u8], run: &mut [u32]) -> Read
     Read::Held(n)
 }
 
-pub fn read_policy(s: &[u8], run: &mut [u32]) -> Read
-    requires { ⌜ Lent policyBytes 0 (now s) (now run) ⌝ }
+// A policy text that is not too long: judged first, and then held.
+fn judged_policy(s: &[u8], run: &mut [u32]) -> Read
+    requires { ⌜ (length (now s) ≤ policyBytes) × (Lent policyBytes 0 (now s) (now run)) ⌝ }
     ensures { λ r. ⌜ Answers policyRules held (now (s .entry)) (now (run .exit)) r ⌝ }
 {
-    if s.len() > limits::POLICY {
-        return Read::Refused(Refusal::PolicyLength);
-    }
     let v = scan::scan(s);
     match v {
         Verdict::Whole => whole_policy(s, run),
@@ -65,6 +65,38 @@ pub fn read_policy(s: &[u8], run: &mut [u32]) -> Read
     }
 }
 
+// A record that is not too long, likewise.
+fn judged_record(s: &[u8], run: &mut [u32]) -> Read
+    requires { ⌜ (length (now s) ≤ recordBytes) × (Lent recordBytes 1 (now s) (now run)) ⌝ }
+    ensures { λ r. ⌜ Answers recordRules heldRequest (now (s .entry)) (now (run .exit)) r ⌝ }
+{
+    let v = scan::scan(s);
+    match v {
+        Verdict::Whole => whole_record(s, run),
+        Verdict::Breaks(p) => Read::Refused(Refusal::RecordText(p)),
+        Verdict::Deep => Read::Refused(Refusal::RecordLayout),
+    }
+}
+
+// A policy text in the usual form is read in one walk, any other in two.
+pub fn read_policy(s: &[u8], run: &mut [u32]) -> Read
+    requires { ⌜ Lent policyBytes 0 (now s) (now run) ⌝ }
+    ensures { λ r. ⌜ Answers policyRules held (now (s .entry)) (now (run .exit)) r ⌝ }
+{
+    if s.len() > limits::POLICY {
+        return Read::Refused(Refusal::PolicyLength);
+    }
+    let h = straight::policies::policy(s, run);
+    let Held::Past(n) = h else {
+        return judged_policy(s, run);
+    };
+    if runs::over_limit(run) {
+        return Read::Refused(Refusal::PolicyLimit);
+    }
+    Read::Held(n)
+}
+
+// A record likewise.
 pub fn read_record(s: &[u8], run: &mut [u32]) -> Read
     requires { ⌜ Lent recordBytes 1 (now s) (now run) ⌝ }
     ensures { λ r. ⌜ Answers recordRules heldRequest (now (s .entry)) (now (run .exit)) r ⌝ }
@@ -72,10 +104,9 @@ pub fn read_record(s: &[u8], run: &mut [u32]) -> Read
     if s.len() > limits::RECORD {
         return Read::Refused(Refusal::RecordLength);
     }
-    let v = scan::scan(s);
-    match v {
-        Verdict::Whole => whole_record(s, run),
-        Verdict::Breaks(p) => Read::Refused(Refusal::RecordText(p)),
-        Verdict::Deep => Read::Refused(Refusal::RecordLayout),
-    }
+    let h = straight::records::record(s, run);
+    let Held::Past(n) = h else {
+        return judged_record(s, run);
+    };
+    Read::Held(n)
 }

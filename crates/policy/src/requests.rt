@@ -1,72 +1,22 @@
 // A record held as numbers in a lent run: its action, its resource and its context entries.
-ghost use mathlib.Core.Path.{_≡_};
 ghost use mathlib.Core.List.{[], _∷_};
 ghost use Prim.Native.Nat.{ℕ};
 ghost use Rattle.text.specs.Json.{Json};
 ghost use Rattle.text.specs.Contents.{Stands};
-ghost use Rattle.syntax.specs.Forms.{all};
 ghost use Rattle.syntax.specs.Members.{Slot, required, optional};
-ghost use Rattle.syntax.specs.RecordLayout.{onlyOne, isPlain, isActionName, actionNameOf, isResourceArn};
+ghost use Rattle.syntax.specs.RecordLayout.{onlyOne, actionNameOf};
 ghost use Rattle.syntax.specs.RecordLayout.{resourceArnOf, requestOf};
 ghost use Rattle.held.specs.Held.{heldText, heldRequest};
 ghost use Rattle.parts.specs.Slots.{Placed};
 ghost use Rattle.parts.specs.Room.{Holdable, HoldableSlot};
 ghost use Rattle.parts.specs.Holding.{Holds};
 use crate::contexts;
-use held::limits;
 use parts::holding;
 use parts::holding::Held;
 use parts::members;
 use parts::members::Layout;
 use parts::sole;
-use syntax::forms;
 use text::walk;
-
-fn is_plain_char(c: u32) -> bool
-    ensures { λ r. ⌜ r ≡ isPlain c ⌝ }
-{
-    match c {
-        58 => true,
-        _ => forms::is_vendor_char(c),
-    }
-}
-
-fn is_plain(cs: &[u32]) -> bool
-    ensures { λ r. ⌜ r ≡ all isPlain (now (cs .entry)) ⌝ }
-{
-    let mut i = 0;
-    while i < cs.len() {
-        if !is_plain_char(cs[i]) {
-            return false;
-        }
-        i += 1;
-    }
-    true
-}
-
-fn is_action_name(cs: &[u32]) -> bool
-    ensures { λ r. ⌜ r ≡ isActionName (now (cs .entry)) ⌝ }
-{
-    if !forms::is_vendor(cs) {
-        return false;
-    }
-    if !is_plain(cs) {
-        return false;
-    }
-    cs.len() <= limits::ENTRY
-}
-
-fn is_resource_arn(cs: &[u32]) -> bool
-    ensures { λ r. ⌜ r ≡ isResourceArn (now (cs .entry)) ⌝ }
-{
-    if limits::ENTRY < cs.len() {
-        return false;
-    }
-    if forms::is_only(cs, 42) {
-        return true;
-    }
-    forms::is_arn(cs)
-}
 
 fn hold_action_name(s: &[u8], v: usize, run: &mut [u32], at: usize) -> Held
     requires { ⌜ HoldableSlot (now s) v (now run) at 0 ⌝ }
@@ -77,7 +27,7 @@ fn hold_action_name(s: &[u8], v: usize, run: &mut [u32], at: usize) -> Held
         return Held::Wrong;
     };
     let first = at + 1;
-    if !is_action_name(&run[first..p]) {
+    if !straight::forms::is_action_name(&run[first..p]) {
         return Held::Wrong;
     }
     Held::Past(p)
@@ -98,7 +48,7 @@ fn hold_resource_arn(s: &[u8], v: usize, run: &mut [u32], at: usize) -> Held
     let Held::Past(p) = h else {
         return Held::Wrong;
     };
-    if !is_resource_arn(&run[first..p]) {
+    if !straight::forms::is_resource_arn(&run[first..p]) {
         return Held::Wrong;
     }
     Held::Past(p)

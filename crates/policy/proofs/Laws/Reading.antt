@@ -31,6 +31,9 @@ use Rattle.policy.specs.Reading.{recordRules, Says, long, broken, deep, 
 use Rattle.policy.specs.declared.refusals.Refusal.the-variants.{PolicyLayout, PolicyLimit, RecordLayout}
 use Rattle.policy.specs.declared.reading.Read.{Read}
 use Rattle.policy.specs.declared.reading.Read.the-variants as R
+use Rattle.parts.specs.declared.holding.Held.{Held}
+use Rattle.parts.specs.declared.holding.Held.the-variants as H
+use Rattle.straight.specs.Usual.{TakenText, TakesText}
 use Rattle.parts.proofs.Laws.Room.{cost-within}
 use Rattle.parts.proofs.Laws.Extends.{extends-within, extends-lies}
 
@@ -132,12 +135,12 @@ held-lies b d = extends-lies (d .extends) (omega arith) b
 held-is : {run run′ : List ℕ} {xs : List ℕ} {n : ℕ} → Extends run run′ 0 xs n → take n run′ ≡ xs
 held-is e = e .is
 
-module _ {extra : ℕ} {s run : List ℕ} (f : Fit 16384 extra s run) where
+module _ {s : List ℕ} (short : length s ≤ 16384) (x : Text levels s) where
   abbrev tree : Json
-  tree = whole-text f .tree
+  tree = x .tree
 
   comes : Says policyRules s (policyComes (policyOf tree))
-  comes = text (f .short) (whole-text f)
+  comes = text short x
 
   pub policy-wrong : policyOf tree ≡ wrong → Says policyRules s (refused PolicyLayout)
   policy-wrong e = subst (Says policyRules s) (ap policyComes e) comes
@@ -153,7 +156,7 @@ module _ {extra : ℕ} {s run : List ℕ} (f : Fit 16384 extra s run) where
   policy-over p e l = limited p true e l
 
   pub policy-known :
-      {run′ : List ℕ} {n : ℕ} (d : Laid held run run′ 0 (policyOf tree) n) → overLimit (d .thing) ≡ false
+      {run run′ : List ℕ} {n : ℕ} (d : Laid held run run′ 0 (policyOf tree) n) → overLimit (d .thing) ≡ false
       → Knows policyRules held s run′ n
   policy-known d l =
       record {
@@ -163,15 +166,15 @@ module _ {extra : ℕ} {s run : List ℕ} (f : Fit 16384 extra s run) where
         inside = extends-within (d .extends) (omega arith);
       }
 
-module _ {extra : ℕ} {s run : List ℕ} (f : Fit 8192 extra s run) where
-  request : Says recordRules s (requestComes (requestOf (whole-text f .tree)))
-  request = text (f .short) (whole-text f)
+module _ {s : List ℕ} (short : length s ≤ 8192) (x : Text levels s) where
+  request : Says recordRules s (requestComes (requestOf (x .tree)))
+  request = text short x
 
-  pub record-wrong : requestOf (whole-text f .tree) ≡ wrong → Says recordRules s (refused RecordLayout)
+  pub record-wrong : requestOf (x .tree) ≡ wrong → Says recordRules s (refused RecordLayout)
   record-wrong e = subst (Says recordRules s) (ap requestComes e) request
 
   pub record-known :
-      {run′ : List ℕ} {n : ℕ} (d : Laid heldRequest run run′ 0 (requestOf (whole-text f .tree)) n)
+      {run run′ : List ℕ} {n : ℕ} (d : Laid heldRequest run run′ 0 (requestOf (x .tree)) n)
       → Knows recordRules heldRequest s run′ n
   record-known d =
       record {
@@ -180,3 +183,18 @@ module _ {extra : ℕ} {s run : List ℕ} (f : Fit 8192 extra s run) where
         is = held-is (d .extends);
         inside = extends-within (d .extends) (omega arith);
       }
+
+-- ---- a text in the usual form
+
+module _ {A : Type 0} (h : A → List ℕ) (f : Json → Reading A) (s run run′ : List ℕ) where
+  pub text-past : {r : Held} {n : ℕ} → TakesText h f s run run′ r → r ≡ H.Past n → TakenText h f s run run′ n
+  text-past t k = subst (TakesText h f s run run′) k t
+
+  pub text-wrong : {r : Held} → TakesText h f s run run′ r → r ≡ H.Wrong → length run′ ≡ length run
+  text-wrong t k = subst (TakesText h f s run run′) k t
+
+-- the run that was written on is lent again
+pub lent-again : {most extra : ℕ} {s run run′ : List ℕ} → Lent most extra s run → length run′ ≡ length run
+    → Lent most extra s run′
+lent-again l e =
+    record { enough = λ k. omega (arith, e, l .enough k); bounded = omega (arith, e, l .bounded) }

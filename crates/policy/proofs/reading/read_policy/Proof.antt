@@ -1,8 +1,12 @@
--- Too long, broken, too deep, or a whole text.
+-- Too long; in the usual form, with its limits judged on what is held; or any other text.
 use mathlib.Core.Path.{sym, _∙_}
 use native.Mathlib.Omega.{arith}
+use Rattle.syntax.specs.PolicyLayout.{policyOf}
+use Rattle.held.specs.Held.{held}
+use Rattle.straight.specs.Usual.{TakenText}
 use Rattle.policy.specs.Reading.{policyRules}
-use Rattle.policy.proofs.Laws.Reading.{says-long, says-broken, says-deep}
+use Rattle.policy.proofs.Laws.Reading.{says-long, text-past, text-wrong, lent-again, held-lies, policy-over}
+use Rattle.policy.proofs.Laws.Reading.{policy-known}
 use borrow.Author.Needs.{needs}
 use Rattle.policy.proofs.reading.read_policy.Statement.{statement}
 use Rattle.policy.proofs.reading.read_policy.Tie as tie
@@ -10,59 +14,82 @@ use Rattle.policy.proofs.reading.read_policy.Tie as tie
 returns : tie.Need-returns
 returns c = says-long policyRules _ (omega (arith, c .if1 .taken))
 
-scan-requires : tie.Need-scan-requires
-scan-requires c κs = search needs
+policy-requires : tie.Need-policy-requires
+policy-requires c κs = c .before .before .before .before .pre .bounded
+
+enum-known-h : tie.Need-enum-known-h
+enum-known-h c = search needs
 
 enum-told : tie.Need-enum-told
 enum-told c = search needs
 
-whole-policy-requires : tie.Need-whole-policy-requires
-whole-policy-requires c κs =
-    let at-scan = c .before .before .before in
-    let at-if1 = at-scan .before in
-    let start = at-if1 .before .before .before in
-    record {
-      whole = sym (at-scan .scan .ensures) ∙ c .before .enum-told .given .1;
-      short = omega
-          (arith, at-if1 .if1 .left);
-      lent = start .pre;
-    }
-
-enum-known-v : tie.Need-enum-known-v
-enum-known-v c = search needs
-
-enum-told-2 : tie.Need-enum-told-2
-enum-told-2 c = search needs
+judged-policy-requires : tie.Need-judged-policy-requires
+judged-policy-requires c κs =
+    let at-policy = c .before .before .before .before .before in
+    let at-if1 = at-policy .before .before in
+    let start = at-if1 .before .before .before in (
+      omega (arith, at-if1 .if1 .left),
+      lent-again (start .pre)
+          (text-wrong held policyOf _ _ _ (at-policy .policy .ensures) (c .before .enum-told .given .1)),
+    )
 
 same-length : tie.Need-same-length
 same-length c = search needs
 
 returns-2 : tie.Need-returns-2
-returns-2 c = c .before .before .whole-policy .ensures
+returns-2 c = c .before .before .judged-policy .ensures
+
+-- what was taken of the text
+taken : (c : tie.After-h)
+    → TakenText held policyOf
+    (c .before .before .before .before .before .before .before .before .before .args .s .now)
+    (c .before .before .before .before .before .before .before .before .before .args .run .now)
+    (c .before .before .before .before .policy .last .1 .0) (c .h .given .0 .0)
+taken c = text-past held policyOf _ _ _ (c .before .before .before .before .policy .ensures) (c .h .given .1)
+
+over-limit-requires : tie.Need-over-limit-requires
+over-limit-requires c κs =
+    let at-h = c .before .before in
+    let start = at-h .before .before .before .before .before .before .before .before .before in
+    record { thing = _; lies = held-lies (start .pre .bounded) (taken at-h .laid) }
+
+same-length-2 : tie.Need-same-length-2
+same-length-2 c = taken (c .before .before .before .before) .laid .extends .size
 
 returns-3 : tie.Need-returns-3
 returns-3 c =
-    let at-scan = c .before .before .before in
-    let at-if1 = at-scan .before in
-    says-broken policyRules _ _ (omega (arith, at-if1 .if1 .left)) (at-scan .scan .ensures) (c .before .v .given .1)
+    let at-h = c .before .before .before .before in
+    let at-if1 = at-h .before .before .before .before .before .before in
+    let start = at-if1 .before .before .before in
+    let t = taken at-h in
+    policy-over (omega (arith, at-if1 .if1 .left)) (t .text) _ (t .laid .said)
+    (sym (c .before .over-limit .ensures _ (held-lies (start .pre .bounded) (t .laid))) ∙ c .if2 .taken)
+
+same-length-3 : tie.Need-same-length-3
+same-length-3 c = taken (c .before .before .before .before) .laid .extends .size
 
 returns-4 : tie.Need-returns-4
 returns-4 c =
-    let at-scan = c .before .before in
-    let at-if1 = at-scan .before in
-    says-deep policyRules _ (omega (arith, at-if1 .if1 .left)) (at-scan .scan .ensures) (c .enum-told2 .given .1)
+    let at-h = c .before .before .before .before in
+    let at-if1 = at-h .before .before .before .before .before .before in
+    let start = at-if1 .before .before .before in
+    let t = taken at-h in
+    policy-known (omega (arith, at-if1 .if1 .left)) (t .text) (t .laid)
+    (sym (c .before .over-limit .ensures _ (held-lies (start .pre .bounded) (t .laid))) ∙ c .if2 .left)
 
 pub read-policy-spec : {M : Type 1} → statement M
 read-policy-spec =
     tie.close
     (tie.spec
     returns
-    scan-requires
+    policy-requires
+    enum-known-h
     enum-told
-    whole-policy-requires
-    enum-known-v
-    enum-told-2
+    judged-policy-requires
     same-length
     returns-2
+    over-limit-requires
+    same-length-2
     returns-3
+    same-length-3
     returns-4)

@@ -42,7 +42,7 @@ returns c =
     let at-hold-policy = c .before .before .before .before in
     let at-root = at-hold-policy .before .before in
     let start = at-root .before .before .before in
-    policy-wrong (start .pre) ((holds-wrong held (start .args .run .now) _ _ _
+    policy-wrong (start .pre .short) (whole-text (start .pre)) ((holds-wrong held (start .args .run .now) _ _ _
     (at-hold-policy .hold-policy .ensures _ _ (root-stands (start .pre) (at-root .root .ensures)))
     (c .enum-told .given .1)) .said)
 
@@ -78,7 +78,7 @@ returns-2 c =
     let at-hold-policy = at-h .before .before .before .before in
     let at-root = at-hold-policy .before .before in
     let start = at-root .before .before .before in
-    policy-over (start .pre) _ ((holds-past held (start .args .run .now) _ _ _
+    policy-over (start .pre .short) (whole-text (start .pre)) _ ((holds-past held (start .args .run .now) _ _ _
     (at-hold-policy .hold-policy .ensures _ _ (root-stands (start .pre) (at-root .root .ensures)))
     (at-h .h .given .1)) .said) (sym (c .before .over-limit .ensures _
     (held-lies (start .pre .lent .bounded) (holds-past held (start .args .run .now) _ _ _
@@ -101,7 +101,7 @@ returns-3 c =
     let at-hold-policy = at-h .before .before .before .before in
     let at-root = at-hold-policy .before .before in
     let start = at-root .before .before .before in
-    policy-known (start .pre) (holds-past held (start .args .run .now) _ _ _
+    policy-known (start .pre .short) (whole-text (start .pre)) (holds-past held (start .args .run .now) _ _ _
     (at-hold-policy .hold-policy .ensures _ _ (root-stands (start .pre) (at-root .root .ensures)))
     (at-h .h .given .1)) (sym (c .before .over-limit .ensures _
     (held-lies (start .pre .lent .bounded) (holds-past held (start .args .run .now) _ _ _

@@ -40,7 +40,7 @@ same-length c = (holds-wrong heldRequest
     (c .before .before .before .before .before .before .root .ensures))) (c .enum-told .given .1)) .size
 
 returns : tie.Need-returns
-returns c = record-wrong (c .before .before .before .before .before .before .before .before .before .pre)
+returns c = record-wrong (c .before .before .before .before .before .before .before .before .before .pre .short) (whole-text (c .before .before .before .before .before .before .before .before .before .pre))
     ((holds-wrong heldRequest
     (c .before .before .before .before .before .before .before .before .before .args .run .now) _ _ _
     (c .before .before .before .before .hold-request .ensures _ _
@@ -57,7 +57,7 @@ same-length-2 c = (holds-past heldRequest
     (c .before .h .given .1)) .extends .size
 
 returns-2 : tie.Need-returns-2
-returns-2 c = record-known (c .before .before .before .before .before .before .before .before .before .before .pre)
+returns-2 c = record-known (c .before .before .before .before .before .before .before .before .before .before .pre .short) (whole-text (c .before .before .before .before .before .before .before .before .before .before .pre))
     (holds-past heldRequest
     (c .before .before .before .before .before .before .before .before .before .before .args .run .now) _ _ _
     (c .before .before .before .before .before .hold-request .ensures _ _

@@ -1,0 +1,4 @@
+-- What the contracts of `straight` cite.
+pub mod Marks
+pub mod Taking
+pub mod Usual
