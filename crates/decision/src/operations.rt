@@ -1,5 +1,5 @@
 // The operations over bytes.
-ghost use Rattle.syntax.specs.Limits.{policyBytes};
+ghost use Rattle.syntax.specs.Limits.{policyBytes, recordBytes};
 ghost use Rattle.syntax.specs.Policy.{Policy};
 ghost use Rattle.held.specs.Held.{held};
 ghost use Rattle.held.specs.Lying.{Lies, Lying};
@@ -11,10 +11,25 @@ use policy::reading;
 use policy::reading::Read;
 use policy::refusals::Refusal;
 
+// A record of so many bytes is held in a short run, most are no longer; a longer one needs a longer run.
+pub const BRIEF: usize = 1024;
+
 // A decision; or a refusal.
 pub enum Answer {
     Decided(Decision),
     Refused(Refusal),
+}
+
+// A record under a held policy, with a run lent for the request.
+fn decide_asked(policy: &[u32], asked: &[u8], run: &mut [u32]) -> Answer
+    requires { ⌜ (Lying held (now policy) 0) × (Lent recordBytes 1 (now asked) (now run)) ⌝ }
+    ensures { λ r. ⌜ ((p : Policy) → Lies (now (policy .entry)) 0 (held p) → RecordDecides p (now (asked .entry)) (toldAnswer r)) ⌝ }
+{
+    let h = reading::read_record(asked, run);
+    match h {
+        Read::Held(_) => Answer::Decided(deciding::decide(policy, run)),
+        Read::Refused(f) => Answer::Refused(f),
+    }
 }
 
 // A record under a held policy.
@@ -22,12 +37,12 @@ fn decide_record(policy: &[u32], asked: &[u8]) -> Answer
     requires { ⌜ Lying held (now policy) 0 ⌝ }
     ensures { λ r. ⌜ ((p : Policy) → Lies (now (policy .entry)) 0 (held p) → RecordDecides p (now (asked .entry)) (toldAnswer r)) ⌝ }
 {
-    let mut run = [0u32; 8448];
-    let h = reading::read_record(asked, &mut run);
-    match h {
-        Read::Held(_) => Answer::Decided(deciding::decide(policy, &run)),
-        Read::Refused(f) => Answer::Refused(f),
+    if asked.len() <= BRIEF {
+        let mut run = [0u32; 1056];
+        return decide_asked(policy, asked, &mut run);
     }
+    let mut run = [0u32; 8448];
+    decide_asked(policy, asked, &mut run)
 }
 
 // Decide, with a run lent for the policy.
