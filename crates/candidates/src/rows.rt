@@ -46,6 +46,23 @@ fn block_zeros(row: &[u32], at: usize) -> bool
     zero
 }
 
+// Past the rest behind a place, if it lies in the last block and that is of zeros.
+fn past_last(row: &[u32], i: usize) -> usize
+    ensures { λ r. ⌜ isZero (drop r (now (row .entry))) ≡ isZero (drop i (now (row .entry))) ⌝ }
+{
+    if row.len() < 32 {
+        return i;
+    }
+    let last = row.len() - 32;
+    if i < last {
+        return i;
+    }
+    if !block_zeros(row, last) {
+        return i;
+    }
+    row.len()
+}
+
 // Past some of the zeros, block by block.
 fn past_zeros(row: &[u32]) -> usize
     ensures { λ r. ⌜ isZero (drop r (now (row .entry))) ≡ isZero (now (row .entry)) ⌝ }
@@ -57,7 +74,7 @@ fn past_zeros(row: &[u32]) -> usize
         }
         i += 32;
     }
-    i
+    past_last(row, i)
 }
 
 // Is all of it zero?

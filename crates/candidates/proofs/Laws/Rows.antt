@@ -8,7 +8,7 @@ use native.Mathlib.Omega.{arith}
 use lib.Dec.{eqb}
 use lib.ListN.{length, getD, set, take, drop, replicate, length-append, length-replicate, length-drop}
 use lib.ListN.{drop-of-length-le}
-use lib.Seq.{set-append-seam, set-at, take-suc, drop-cons, drop-length, take-all, length-take-le}
+use lib.Seq.{set-append-seam, set-at, take-suc, drop-cons, drop-drop, drop-length, take-all, length-take-le}
 use borrow.Author.Tests.{eq-eqb, ne-eqb, eqb-true}
 use Rattle.chars.specs.Base.{pick}
 use Rattle.chars.proofs.Laws.Tests.{each-true}
@@ -141,6 +141,33 @@ zero-past row i h e =
     ap (λ (k : ℕ). isZero (drop k row)) (add-one i)
     ∙ ap (λ (b : Bool). pick b (isZero (drop (suc i) row)) false) (sym (eq-eqb (getD row i 0) 0 e))
     ∙ ap isZero (sym (drop-cons row i 0 h))
+
+-- behind zeros there are zeros
+zero-drop : (xs : List ℕ) (k : ℕ) → isZero xs ≡ true → isZero (drop k xs) ≡ true
+unfolding isZero
+zero-drop xs zero e = e
+zero-drop [] (suc k) e = refl
+zero-drop (x ∷ xs) (suc k) e = zero-drop xs k (by (eqb x 0) e)
+  where
+    by : (b : Bool) → pick b (isZero xs) false ≡ true → isZero xs ≡ true
+    by true z = z
+    by false z = absurd (let y : _≡_ {A = ℕ} 0 1 = cc in omega arith)
+
+-- where the last n numbers are zeros, so are those behind a place among them
+pub zero-last : (row : List ℕ) (n i : ℕ) → n ≤ length row → length row - n ≤ i
+    → isZero (drop (length row - n + n) row) ≡ isZero (drop (length row - n) row)
+    → isZero (drop (length row) row) ≡ isZero (drop i row)
+unfolding isZero
+zero-last row n i h low e =
+    let end : length row - n + n ≡ length row = omega arith in
+    let k : length row - n + (i - (length row - n)) ≡ i = omega arith in
+    let none : isZero (drop (length row) row) ≡ true = ap isZero (drop-length row) in
+    let last : isZero (drop (length row - n) row) ≡ true =
+    sym e ∙ ap (λ (m : ℕ). isZero (drop m row)) end ∙ none in
+    none
+    ∙ sym (zero-drop (drop (length row - n) row) (i - (length row - n)) last)
+    ∙ ap isZero (drop-drop (i - (length row - n)) (length row - n) row)
+    ∙ ap (λ (m : ℕ). isZero (drop m row)) k
 
 -- one more of a block
 pub block-next :
