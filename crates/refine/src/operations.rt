@@ -1,7 +1,7 @@
 // The operations on rooms, over bytes and numbers.
 ghost use mathlib.Core.Path.{_≡_};
 ghost use mathlib.Core.Bool.{true};
-ghost use Rattle.syntax.specs.Limits.{policyBytes};
+ghost use Rattle.syntax.specs.Limits.{policyBytes, recordBytes};
 ghost use Rattle.syntax.specs.Policy.{Policy, Request};
 ghost use Rattle.held.specs.Held.{held, heldRequest};
 ghost use Rattle.held.specs.Lying.{Lies, Lying};
@@ -9,12 +9,11 @@ ghost use Rattle.policy.specs.Reading.{Lent};
 ghost use Rattle.decision.specs.Decision.{decide};
 ghost use Rattle.decision.specs.Operations as deciding;
 ghost use Rattle.writing.specs.Operations as writing;
-ghost use Rattle.rooms.specs.Rooms.{slots, allowedCharges, charges, fed};
+ghost use Rattle.rooms.specs.Rooms.{slots, charges, fed};
 ghost use Rattle.refine.specs.Operations.{isRoom, holdsFor, Feeds, Joins, Finishes, freshened, toldDone};
 ghost use Rattle.refine.specs.Sound.{Sound, ShortRequest, HeldSound, HeldShort, PolicyFeeds, PolicyJoins};
 ghost use Rattle.refine.specs.Sound.{PolicyFinishes, Holding, Kept};
 use candidates::rows;
-use decision::deciding;
 use decision::deciding::Decision;
 use policy::reading;
 use policy::reading::Read;
@@ -38,18 +37,8 @@ fn holds_room(run: &[u32], room: &[u32]) -> bool
     ensures { λ r. ⌜ ((p : Policy) → Lies (now (run .entry)) 0 (held p) → Sound p → r ≡ holdsFor p (now (room .entry))) ⌝ }
 {
     let mut dir = [0u32; 256];
-    let n = listing::list_policy(run, run, false, &mut dir);
+    let n = listing::list_policy(run, &mut dir);
     walking::fits_room(run, &dir, n, room)
-}
-
-// What a held request charges under a held policy that allows it.
-fn charge(run: &[u32], request: &[u32], room: &mut [u32])
-    requires { ⌜ (Holding (now run) (now room)) × (HeldShort (now request)) ⌝ }
-    ensures { λ r. ⌜ ((p : Policy) (q : Request) → Lies (now (run .entry)) 0 (held p) → Lies (now (request .entry)) 0 (heldRequest q) → Sound p → ShortRequest q → holdsFor p (now (room .entry)) ≡ true → now (room .exit) ≡ fed (slots p) (allowedCharges p q) (now (room .entry))) ⌝ }
-{
-    let mut dir = [0u32; 256];
-    let n = listing::list_policy(run, request, true, &mut dir);
-    walking::feed_room(run, request, &dir, n, room);
 }
 
 // The decision on a held request; one that is allowed is charged.
@@ -57,10 +46,12 @@ fn feed_request(run: &[u32], request: &[u32], room: &mut [u32]) -> Decision
     requires { ⌜ (Holding (now run) (now room)) × (HeldShort (now request)) ⌝ }
     ensures { λ r. ⌜ ((p : Policy) (q : Request) → Lies (now (run .entry)) 0 (held p) → Lies (now (request .entry)) 0 (heldRequest q) → Sound p → ShortRequest q → holdsFor p (now (room .entry)) ≡ true → (r ≡ decide p q) × (now (room .exit) ≡ fed (slots p) (charges p q) (now (room .entry)))) ⌝ }
 {
-    let d = deciding::decide(run, request);
+    let mut dir = [0u32; 256];
+    let j = listing::decide_policy(run, request, &mut dir);
+    let d = j.decision;
     match d {
         Decision::Allowed(n) => {
-            charge(run, request, room);
+            walking::feed_room(run, request, &dir, j.notes, room);
             Decision::Allowed(n)
         }
         Decision::Denied(n) => Decision::Denied(n),
@@ -69,6 +60,23 @@ fn feed_request(run: &[u32], request: &[u32], room: &mut [u32]) -> Decision
 }
 
 // Feed, under a held policy whose room this is, with a run lent for the request: the room stays such a one.
+fn feed_asked(
+    run: &[u32],
+    asked: &[u8],
+    request: &mut [u32],
+    room: &mut [u32],
+) -> decision::operations::Answer
+    requires { ⌜ (Holding (now run) (now room)) × (Lent recordBytes 1 (now asked) (now request)) ⌝ }
+    ensures { λ r. ⌜ (Holding (now (run .entry)) (now (room .exit))) × ((p : Policy) → Lies (now (run .entry)) 0 (held p) → Sound p → holdsFor p (now (room .entry)) ≡ true → PolicyFeeds p (now (asked .entry)) (now (room .entry)) (deciding.toldAnswer r) (now (room .exit))) ⌝ }
+{
+    let h = reading::read_record(asked, request);
+    match h {
+        Read::Held(_) => decision::operations::Answer::Decided(feed_request(run, request, room)),
+        Read::Refused(f) => decision::operations::Answer::Refused(f),
+    }
+}
+
+// The same for a caller that keeps the run for requests from one record to the next.
 pub fn feed_record(
     run: &[u32],
     asked: &[u8],
@@ -78,11 +86,7 @@ pub fn feed_record(
     requires { ⌜ Kept (now run) (now request) (now room) ⌝ }
     ensures { λ r. ⌜ (Kept (now (run .entry)) (now (request .exit)) (now (room .exit))) × ((p : Policy) → Lies (now (run .entry)) 0 (held p) → Sound p → holdsFor p (now (room .entry)) ≡ true → PolicyFeeds p (now (asked .entry)) (now (room .entry)) (deciding.toldAnswer r) (now (room .exit))) ⌝ }
 {
-    let h = reading::read_record(asked, request);
-    match h {
-        Read::Held(_) => decision::operations::Answer::Decided(feed_request(run, request, room)),
-        Read::Refused(f) => decision::operations::Answer::Refused(f),
-    }
+    feed_asked(run, asked, request, room)
 }
 
 // Feed, under a held policy.
@@ -93,8 +97,12 @@ fn feed_held(run: &[u32], asked: &[u8], room: &mut [u32]) -> decision::operation
     if !holds_room(run, room) {
         return decision::operations::Answer::Refused(Refusal::RoomContent);
     }
+    if asked.len() <= decision::operations::BRIEF {
+        let mut request = [0u32; 1056];
+        return feed_asked(run, asked, &mut request, room);
+    }
     let mut request = [0u32; 8448];
-    feed_record(run, asked, &mut request, room)
+    feed_asked(run, asked, &mut request, room)
 }
 
 // Feed, with a run lent for the policy.
@@ -134,7 +142,7 @@ fn join_held(run: &[u32], room: &mut [u32], other: &[u32]) -> Answer
     ensures { λ r. ⌜ ((p : Policy) → Lies (now (run .entry)) 0 (held p) → Sound p → PolicyJoins p (now (room .entry)) (now (other .entry)) (toldDone r) (now (room .exit))) ⌝ }
 {
     let mut dir = [0u32; 256];
-    let n = listing::list_policy(run, run, false, &mut dir);
+    let n = listing::list_policy(run, &mut dir);
     if !walking::fits_room(run, &dir, n, room) {
         return Answer::Refused(Refusal::RoomContent);
     }

@@ -1,5 +1,6 @@
 pub mod Handling
 pub mod HandlingRows
+pub mod Already
 pub mod Walking
 pub mod WalkingRows
 pub mod Listing
@@ -8,6 +9,7 @@ pub mod ListingWalk
 pub mod ListingStatement
 pub mod ListingTurns
 pub mod ListingParts
+pub mod Judging
 pub mod Lengths
 pub mod Fed
 pub mod Empty

@@ -5,20 +5,25 @@
 --   SlotAt run h p e s    the numbers h and p tell of the slot s, whose entry lies at e
 --   Valued at v f     v is 0 where f is nothing, else one more than the place where the value found lies
 --   Lists .. ss fs    behind the first o numbers of a run came the notes of the slots ss, with the values fs
+--   ListsTo .. e      and what was listed ends before the place e of the held run
+--   Judges .. p q     the decision, and the notes of what it charges where it allows
 use mathlib.Core.Path.{_≡_}
-use mathlib.Core.Bool.{Bool, true, false}
+use mathlib.Core.Bool.{Bool}
 use mathlib.Core.List.{List, [], _∷_, _++_, map}
 use Prim.Native.Nat.{ℕ, suc, _+_, _*_, _≤_}
 use lib.ListN.{length, take}
-use Rattle.chars.specs.Base.{pick}
 use Rattle.syntax.specs.Policy.{Effect, Allow, Deny, Operator, StringEquals, StringLike, NumericLessThanEquals}
 use Rattle.syntax.specs.Policy.{Value, text, number, Statement, Policy, Context, Request}
-use Rattle.held.specs.Held.{heldEach, heldValue, heldList, heldContext, heldRequest, effectNumber}
+use Rattle.syntax.specs.Forms.{both}
+use Rattle.held.specs.Held.{heldEach, heldValue, heldList, heldContext, effectNumber}
 use Rattle.held.specs.Lying.{Lies}
-use Rattle.decision.specs.Decision.{Found, nothing, found}
+use Rattle.decision.specs.Decision.{Found, nothing, found, sameEffect, decide}
+use Rattle.decision.specs.declared.deciding.Decision.the-variants.{Allowed}
 use Rattle.candidates.specs.Entries.{comparison, inAction, inResource}
 use Rattle.candidates.specs.Places.{placeNumber}
-use Rattle.rooms.specs.Rooms.{Slot, slots, hits, rowHits, none, allowedCharges}
+use Rattle.rooms.specs.Rooms.{Slot, slots, hits, rowHits, allowedCharges}
+use Rattle.rooms.specs.declared.listing.Noted.{Noted}
+use Rattle.rooms.specs.declared.listing.Judged.{Judged}
 
 -- ---- slots
 
@@ -93,6 +98,12 @@ pub record Lists (run at : List ℕ) (ss : List Slot) (fs : List Found) (dir : L
   pub next : r ≡ o + noteNumbers * length ss
   pub is : take r after ≡ take o dir ++ heldEach noted notes
 
+-- what was listed ends before e
+pub record ListsTo (run at : List ℕ) (ss : List Slot) (fs : List Found) (dir : List ℕ) (o : ℕ) (after : List ℕ) (e : ℕ)
+    (g : Noted) : Type 0 where
+  pub lists : Lists run at ss fs dir o (g .next) after
+  pub past : g .past ≡ e
+
 -- a thing lies there, and its notes have room behind the first o numbers
 pub record Listable {A : Type 0} (h : A → List ℕ) (many : A → ℕ) (run : List ℕ) (p : ℕ) (dir : List ℕ) (o : ℕ)
     : Type 0 where
@@ -107,14 +118,12 @@ unfoldable pub statementFound : Statement → Found → Found → List Context �
 statementFound s a b cs =
     hits inAction a (map text (s .actions)) ++ (hits inResource b (map text (s .resources)) ++ rowHits (s .rows) cs)
 
--- the request is looked at only where it is to be charged
-abbrev pub RequestIf : Bool → List ℕ → Request → Type 0
-RequestIf true at r = Lies at 0 (heldRequest r)
-RequestIf false at r = Unit {0}
+-- a Deny statement that holds
+abbrev pub denying : Statement → Bool → Bool
+denying s holds = both holds (sameEffect Deny (s .effect))
 
-pub record Charging (asked : Bool) (at : List ℕ) : Type 0 where
-  pub request : Request
-  pub lies : RequestIf asked at request
-
-abbrev pub chargesIf : Bool → Policy → Request → List Found
-chargesIf asked p r = pick asked (allowedCharges p r) (none (slots p))
+-- the decision, and what is listed where it allows
+pub record Judges (run at : List ℕ) (p : Policy) (q : Request) (dir after : List ℕ) (r : Judged) : Type 0 where
+  pub decision : r .decision ≡ decide p q
+  pub lists : (n : ℕ) → r .decision ≡ Allowed n → Lists run at (slots p) (allowedCharges p q) dir 0 (r .notes) after
+  pub size : length after ≡ length dir

@@ -9,17 +9,30 @@ ghost use Rattle.held.specs.Held.{heldValue, heldList, heldRow, heldStatement, 
 ghost use Rattle.held.specs.Held.{effectNumber, operatorNumber, statementEntries, rowEntries, entries};
 ghost use Rattle.held.specs.Lying.{Lies, Lying};
 ghost use Rattle.decision.specs.Decision.{Found, valueAt};
+ghost use Rattle.decision.specs.Deciding.{orElse};
 ghost use Rattle.candidates.specs.Entries.{Place, comparison};
 ghost use Rattle.candidates.specs.Places.{placeNumber, Placed};
-ghost use Rattle.rooms.specs.Rooms.{Slot, slotsAt, rowSlots, statementSlots, slots, hit, hits, rowHits, isCharged};
-ghost use Rattle.rooms.specs.Rooms.{none, statementCharges};
+ghost use Rattle.rooms.specs.Rooms.{Slot, slotsAt, rowSlots, statementSlots, slots, hit, hits, rowHits, none};
+ghost use Rattle.rooms.specs.Rooms.{statementHits};
 ghost use Rattle.chars.specs.Base.{pick};
 ghost use Rattle.rooms.specs.Listing.{handling, Valued, Carried, Asked, Asking, noted, noteNumbers, Effecting};
-ghost use Rattle.rooms.specs.Listing.{Lists, Listable, statementFound, RequestIf, Charging, chargesIf};
+ghost use Rattle.rooms.specs.Listing.{Lists, ListsTo, Listable, statementFound, denying, Judges};
 use decision::deciding;
+use decision::deciding::Decision;
 use held::limits;
 use held::places;
-use held::runs;
+
+// The notes end before `next`, and what was listed ends before `past` in the held run.
+pub struct Noted {
+    pub next: usize,
+    pub past: usize,
+}
+
+// A decision, and before which place the notes end if a request is to be charged.
+pub struct Judged {
+    pub decision: Decision,
+    pub notes: usize,
+}
 
 // What the rows of an entry can hold: 0 nothing, 1 the entry itself alone, 2 what its wildcards match, 3 numbers.
 fn handling(effect: u32, place: u32, run: &[u32], e: usize) -> u32
@@ -93,9 +106,9 @@ fn list_entries(
     v: usize,
     dir: &mut [u32],
     o: usize,
-) -> usize
+) -> Noted
     requires { ⌜ (Effecting effect) × (Placed place) × (Listable (heldList heldValue) length (now run) at (now dir) o) × (Carried (now request) v) ⌝ }
-    ensures { λ r. ⌜ ((a : Effect) (p : Place) (xs : List Value) (f : Found) → effect ≡ effectNumber a → place ≡ placeNumber p → Lies (now (run .entry)) at (heldList heldValue xs) → Valued (now (request .entry)) v f → Lists (now (run .entry)) (now (request .entry)) (slotsAt a p xs) (hits p f xs) (now (dir .entry)) o r (now (dir .exit))) ⌝ }
+    ensures { λ r. ⌜ ((a : Effect) (p : Place) (xs : List Value) (f : Found) → effect ≡ effectNumber a → place ≡ placeNumber p → Lies (now (run .entry)) at (heldList heldValue xs) → Valued (now (request .entry)) v f → ListsTo (now (run .entry)) (now (request .entry)) (slotsAt a p xs) (hits p f xs) (now (dir .entry)) o (now (dir .exit)) (at + length (heldList heldValue xs)) r) ⌝ }
 {
     let many = run[at] as usize;
     let mut next = o;
@@ -108,7 +121,10 @@ fn list_entries(
         e = places::past_value(run, e);
         i = i + 1;
     }
-    next
+    Noted {
+        next: next,
+        past: e,
+    }
 }
 
 // One more than the place of the value that the row at a place is asked for; 0 where there is none.
@@ -135,9 +151,9 @@ fn list_rows(
     contexts: usize,
     dir: &mut [u32],
     o: usize,
-) -> usize
+) -> Noted
     requires { ⌜ (Effecting effect) × (Listable (heldList heldRow) rowEntries (now run) at (now dir) o) × (Asking (now request) contexts) ⌝ }
-    ensures { λ r. ⌜ ((a : Effect) (xs : List Row) (cs : List Context) → effect ≡ effectNumber a → Lies (now (run .entry)) at (heldList heldRow xs) → Asked (now (request .entry)) contexts cs → Lists (now (run .entry)) (now (request .entry)) (rowSlots a xs) (rowHits xs cs) (now (dir .entry)) o r (now (dir .exit))) ⌝ }
+    ensures { λ r. ⌜ ((a : Effect) (xs : List Row) (cs : List Context) → effect ≡ effectNumber a → Lies (now (run .entry)) at (heldList heldRow xs) → Asked (now (request .entry)) contexts cs → ListsTo (now (run .entry)) (now (request .entry)) (rowSlots a xs) (rowHits xs cs) (now (dir .entry)) o (now (dir .exit)) (at + length (heldList heldRow xs)) r) ⌝ }
 {
     let n = run[at] as usize;
     let mut next = o;
@@ -146,11 +162,15 @@ fn list_rows(
     while i < n {
         let v = value_of(run, p, request, contexts);
         let l = places::behind_label(run, p);
-        next = list_entries(effect, run[p], run, l, request, v, dir, next);
-        p = runs::row(run, p).past;
+        let g = list_entries(effect, run[p], run, l, request, v, dir, next);
+        next = g.next;
+        p = g.past;
         i = i + 1;
     }
-    next
+    Noted {
+        next: next,
+        past: p,
+    }
 }
 
 // The entries of the statement at a place, asked for an action, a resource and context entries.
@@ -163,36 +183,41 @@ fn list_parts(
     contexts: usize,
     dir: &mut [u32],
     o: usize,
-) -> usize
+) -> Noted
     requires { ⌜ (Listable heldStatement statementEntries (now run) p (now dir) o) × (Carried (now request) action) × (Carried (now request) resource) × (Asking (now request) contexts) ⌝ }
-    ensures { λ r. ⌜ ((s : Statement) (f g : Found) (cs : List Context) → Lies (now (run .entry)) p (heldStatement s) → Valued (now (request .entry)) action f → Valued (now (request .entry)) resource g → Asked (now (request .entry)) contexts cs → Lists (now (run .entry)) (now (request .entry)) (statementSlots s) (statementFound s f g cs) (now (dir .entry)) o r (now (dir .exit))) ⌝ }
+    ensures { λ r. ⌜ ((s : Statement) (f g : Found) (cs : List Context) → Lies (now (run .entry)) p (heldStatement s) → Valued (now (request .entry)) action f → Valued (now (request .entry)) resource g → Asked (now (request .entry)) contexts cs → ListsTo (now (run .entry)) (now (request .entry)) (statementSlots s) (statementFound s f g cs) (now (dir .entry)) o (now (dir .exit)) (p + length (heldStatement s)) r) ⌝ }
 {
     let effect = run[p];
     let a = places::behind_label(run, p);
-    let b = runs::list(run, a).past;
-    let c = runs::list(run, b).past;
-    let actions = list_entries(effect, 0, run, a, request, action, dir, o);
-    let resources = list_entries(effect, 4, run, b, request, resource, dir, actions);
-    list_rows(effect, run, c, request, contexts, dir, resources)
+    let b = list_entries(effect, 0, run, a, request, action, dir, o);
+    let c = list_entries(effect, 4, run, b.past, request, resource, dir, b.next);
+    list_rows(effect, run, c.past, request, contexts, dir, c.next)
 }
 
-// Does the statement at a place allow the request?
-fn is_charged(run: &[u32], p: usize, request: &[u32]) -> bool
-    requires { ⌜ (Lying heldStatement (now run) p) × (Lying heldRequest (now request) 0) ⌝ }
-    ensures { λ r. ⌜ ((s : Statement) (q : Request) → Lies (now (run .entry)) p (heldStatement s) → Lies (now (request .entry)) 0 (heldRequest q) → r ≡ isCharged s q) ⌝ }
+// The entries of a policy, asked for nothing.
+pub fn list_policy(run: &[u32], dir: &mut [u32]) -> usize
+    requires { ⌜ Listable held entries (now run) 0 (now dir) 0 ⌝ }
+    ensures { λ r. ⌜ ((p : Policy) → Lies (now (run .entry)) 0 (held p) → Lists (now (run .entry)) (now (run .entry)) (slots p) (none (slots p)) (now (dir .entry)) 0 r (now (dir .exit))) ⌝ }
 {
-    if run[p] != 1 {
-        return false;
+    let n = run[0] as usize;
+    let mut next = 0usize;
+    let mut p = 1usize;
+    let mut i = 0usize;
+    while i < n {
+        let g = list_parts(run, p, run, 0, 0, 0, dir, next);
+        next = g.next;
+        p = g.past;
+        i = i + 1;
     }
-    deciding::is_nothing(deciding::first_failing(run, p, request))
+    next
 }
 
-// The entries of the statement at a place, with what the request charges to them.
-fn list_charged(run: &[u32], p: usize, request: &[u32], dir: &mut [u32], o: usize) -> usize
+// The entries of the statement at a place, with what a request charges to them if the statement holds.
+fn list_if(run: &[u32], p: usize, request: &[u32], holds: bool, dir: &mut [u32], o: usize) -> Noted
     requires { ⌜ (Listable heldStatement statementEntries (now run) p (now dir) o) × (Lying heldRequest (now request) 0) ⌝ }
-    ensures { λ r. ⌜ ((s : Statement) (q : Request) → Lies (now (run .entry)) p (heldStatement s) → Lies (now (request .entry)) 0 (heldRequest q) → Lists (now (run .entry)) (now (request .entry)) (statementSlots s) (statementCharges s q) (now (dir .entry)) o r (now (dir .exit))) ⌝ }
+    ensures { λ r. ⌜ ((s : Statement) (q : Request) → Lies (now (run .entry)) p (heldStatement s) → Lies (now (request .entry)) 0 (heldRequest q) → ListsTo (now (run .entry)) (now (request .entry)) (statementSlots s) (pick holds (statementHits s q) (none (statementSlots s))) (now (dir .entry)) o (now (dir .exit)) (p + length (heldStatement s)) r) ⌝ }
 {
-    if !is_charged(run, p, request) {
+    if !holds {
         return list_parts(run, p, request, 0, 0, 0, dir, o);
     }
     let t = places::past_value(request, 0);
@@ -200,37 +225,62 @@ fn list_charged(run: &[u32], p: usize, request: &[u32], dir: &mut [u32], o: usiz
     list_parts(run, p, request, 1, t + 1, c + 1, dir, o)
 }
 
-// The entries of the statement at a place; with what the request charges to them, if it is to be charged.
-fn list_statement(
-    run: &[u32],
-    p: usize,
-    request: &[u32],
-    charged: bool,
-    dir: &mut [u32],
-    o: usize,
-) -> usize
-    requires { ⌜ (Listable heldStatement statementEntries (now run) p (now dir) o) × (Charging charged (now request)) ⌝ }
-    ensures { λ r. ⌜ ((s : Statement) (q : Request) → Lies (now (run .entry)) p (heldStatement s) → RequestIf charged (now (request .entry)) q → Lists (now (run .entry)) (now (request .entry)) (statementSlots s) (pick charged (statementCharges s q) (none (statementSlots s))) (now (dir .entry)) o r (now (dir .exit))) ⌝ }
+// Is the statement at a place a Deny that holds?
+fn is_denying(run: &[u32], p: usize, holds: bool) -> bool
+    requires { ⌜ Lying heldStatement (now run) p ⌝ }
+    ensures { λ r. ⌜ ((s : Statement) → Lies (now (run .entry)) p (heldStatement s) → r ≡ denying s holds) ⌝ }
 {
-    if charged {
-        return list_charged(run, p, request, dir, o);
+    if !holds {
+        return false;
     }
-    list_parts(run, p, request, 0, 0, 0, dir, o)
+    run[p] != 1
 }
 
-// The entries of a policy; with what a request charges to them, if it is to be charged.
-pub fn list_policy(run: &[u32], request: &[u32], charged: bool, dir: &mut [u32]) -> usize
-    requires { ⌜ (Listable held entries (now run) 0 (now dir) 0) × (Charging charged (now request)) ⌝ }
-    ensures { λ r. ⌜ ((p : Policy) (q : Request) → Lies (now (run .entry)) 0 (held p) → RequestIf charged (now (request .entry)) q → Lists (now (run .entry)) (now (request .entry)) (slots p) (chargesIf charged p q) (now (dir .entry)) 0 r (now (dir .exit))) ⌝ }
+// The number of the first statement that holds: the one there was, or k if none was and the k-th holds; 0 where none.
+fn first_of(allowed: usize, holds: bool, k: usize) -> usize
+    ensures { λ r. ⌜ r ≡ orElse allowed (pick holds k 0) ⌝ }
+{
+    if allowed != 0 {
+        return allowed;
+    }
+    if holds {
+        return k;
+    }
+    0
+}
+
+// The decision on a request, and the entries of the policy with what the request charges to them, in one walk.
+pub fn decide_policy(run: &[u32], request: &[u32], dir: &mut [u32]) -> Judged
+    requires { ⌜ (Listable held entries (now run) 0 (now dir) 0) × (Lying heldRequest (now request) 0) ⌝ }
+    ensures { λ r. ⌜ ((p : Policy) (q : Request) → Lies (now (run .entry)) 0 (held p) → Lies (now (request .entry)) 0 (heldRequest q) → Judges (now (run .entry)) (now (request .entry)) p q (now (dir .entry)) (now (dir .exit)) r) ⌝ }
 {
     let n = run[0] as usize;
     let mut next = 0usize;
     let mut p = 1usize;
     let mut i = 0usize;
+    let mut allowed = 0usize;
     while i < n {
-        next = list_statement(run, p, request, charged, dir, next);
-        p = runs::statement(run, p).past;
+        let holds = deciding::is_nothing(deciding::first_failing(run, p, request));
+        if is_denying(run, p, holds) {
+            return Judged {
+                decision: Decision::Denied(i + 1),
+                notes: 0,
+            };
+        }
+        allowed = first_of(allowed, holds, i + 1);
+        let g = list_if(run, p, request, holds, dir, next);
+        next = g.next;
+        p = g.past;
         i = i + 1;
     }
-    next
+    if allowed == 0 {
+        return Judged {
+            decision: Decision::Implicit,
+            notes: 0,
+        };
+    }
+    Judged {
+        decision: Decision::Allowed(allowed),
+        notes: next,
+    }
 }

@@ -3,20 +3,26 @@ ghost use mathlib.Core.Path.{_≡_};
 ghost use mathlib.Core.Bool.{true};
 ghost use mathlib.Core.List.{List};
 ghost use lib.ListN.{length};
-ghost use Rattle.syntax.specs.Policy.{Value};
+ghost use Prim.Native.Nat.{ℕ};
+ghost use Rattle.syntax.specs.Policy.{Value, text};
 ghost use Rattle.held.specs.Held.{heldValue};
 ghost use Rattle.held.specs.Lying.{Lies};
 ghost use Rattle.decision.specs.Decision.{Found, found};
-ghost use Rattle.candidates.specs.Rows.{rowNumbers};
+ghost use Rattle.candidates.specs.Candidates.{Covered};
+ghost use Rattle.candidates.specs.Entries.{Place, meetsAt, wildKind};
+ghost use Rattle.candidates.specs.Rows.{rowNumbers, contentOf};
+ghost use Rattle.candidates.specs.Joining.{Texted};
 ghost use Rattle.rooms.specs.Rooms.{Slot, rowFits, fits, rowFed, fed, rowMet, met};
 ghost use Rattle.rooms.specs.Listing.{SlotAt, Valued};
 ghost use Rattle.rooms.specs.Walking.{Listed, Slotted, Chargeable, RowCharged, RightAt, RowFed, RowsMeet};
 ghost use Rattle.rooms.specs.Walking.{Right, Roomy, Fed, Met};
+use candidates::beginnings;
 use candidates::bounding;
 use candidates::fitting;
 use candidates::joining;
 use candidates::rows;
 use held::places;
+use syntax::forms;
 
 // Can an entry have this row?
 fn fits_row(run: &[u32], handling: u32, place: u32, e: usize, row: &[u32]) -> bool
@@ -37,7 +43,26 @@ fn fits_row(run: &[u32], handling: u32, place: u32, e: usize, row: &[u32]) -> bo
     fitting::fits_wild(place, &run[from..to], row)
 }
 
-// A value charged to an entry's row.
+// Does a row of an entry that is matched by its wildcards cover the text v, which the entry matches?
+fn covers(row: &[u32], v: &[u32]) -> bool
+    requires { ⌜ Texted (now row) ⌝ }
+    ensures { λ r. ⌜ ((p : Place) (ys : List ℕ) → meetsAt p (text ys) (text (now (v .entry))) ≡ true → r ≡ true → Covered (wildKind p ys) (contentOf (now (row .entry))) (text (now (v .entry)))) ⌝ }
+{
+    let mark = row[0];
+    let to = row[1] as usize + 2;
+    if mark == rows::BEGINNING {
+        return beginnings::begins(&row[2..to], v);
+    }
+    if mark == rows::SINGLE {
+        return forms::same_text(&row[2..to], v);
+    }
+    if mark == rows::ITSELF {
+        return true;
+    }
+    false
+}
+
+// A value charged to an entry's row, if it is not covered yet.
 fn charge_row(
     run: &[u32],
     handling: u32,
@@ -62,6 +87,9 @@ fn charge_row(
     let to = from + run[e] as usize;
     let a = v + 1;
     let b = a + request[v] as usize;
+    if covers(row, &request[a..b]) {
+        return;
+    }
     joining::charge_wild(place, &run[from..to], &request[a..b], row);
 }
 

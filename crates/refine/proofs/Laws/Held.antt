@@ -27,7 +27,7 @@ use Rattle.decision.specs.declared.deciding.Decision.the-variants.{Denied, Allo
 use Rattle.writing.proofs.Laws.Operations.{read-limits, read-valid}
 use Rattle.candidates.specs.Rows.{rowNumbers}
 use Rattle.rooms.specs.Rooms.{Slot, slots, none, allowedCharges, byDecision, charges, fed, met}
-use Rattle.rooms.specs.Listing.{noted, noteNumbers, Told, Lists, Listable, Charging, RequestIf, chargesIf}
+use Rattle.rooms.specs.Listing.{noted, noteNumbers, Told, Lists, Listable}
 use Rattle.rooms.specs.Walking.{Listed, Right, Roomy, Fed, Met}
 use Rattle.refine.specs.Operations.{roomNumbers, isRoom, holdsFor, Feeds, Joins, Finishes, Done, done}
 use Rattle.refine.specs.Operations as O
@@ -95,9 +95,6 @@ listable h n =
       lies = h .lies;
       room = omega (arith, few-entries (h .policy) (h .sound .limits), n);
     }
-
-pub no-request : (at : List ℕ) → Charging false at
-no-request at = record { request = record { action = []; resource = []; context = [] }; lies = Prim.tt }
 
 pub listed :
     {run at dir after : List ℕ} {r : ℕ} {ss : List Slot} {fs : List Found} → Lists run at ss fs dir 0 r after

@@ -17,7 +17,7 @@ use Rattle.rooms.specs.Listing.{handlingBy, handling}
 
 -- ---- numbers of effects and places
 
-pub allowed : (a : Effect) → effectNumber a ≡ 1 → a ≡ Allow
+allowed : (a : Effect) → effectNumber a ≡ 1 → a ≡ Allow
 allowed Allow h = refl
 allowed Deny h = absurd (omega arith)
 

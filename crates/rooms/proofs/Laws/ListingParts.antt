@@ -1,41 +1,43 @@
 -- The parts of a statement, noted one behind the other: its actions, resources and rows, and what each is asked for.
-use mathlib.Core.Path.{_≡_, refl}
-use mathlib.Core.List.{List, [], map}
+use mathlib.Core.Path.{_≡_, refl, sym, ap, _∙_, subst}
+use mathlib.Core.List.{List, [], _++_, map}
 use Prim.Native.Nat.{ℕ, _+_, _<_}
 use native.Mathlib.Omega.{arith}
-use lib.ListN.{length, getD, length-map}
+use lib.ListN.{length, getD, length-map, length-append}
 use Rattle.syntax.specs.Policy.{Effect, Value, text, Row, Statement, Context, Request}
-use Rattle.held.specs.Held.{heldValue, heldList, heldRow, heldStatement, heldRequest, effectNumber}
+use Rattle.held.specs.Held.{heldText, heldValue, heldList, heldRow, heldStatement, heldRequest, effectNumber}
 use Rattle.held.specs.Held.{rowEntries, statementEntries}
 use Rattle.held.specs.Lying.{Lies, Lying}
-use Rattle.held.specs.declared.runs.Seen.{Seen}
-use Rattle.held.proofs.Laws.Runs.{lies-inside}
-use Rattle.held.proofs.Laws.RunsStatement.{ListPassed}
-use Rattle.held.proofs.Laws.Parts.{BehindLabel, BehindValue, statement-effect, actions-lie, resources-lie, rows-lie}
-use Rattle.held.proofs.Laws.Parts.{texts-values, action-lies, resource-lies, contexts-lie}
+use Rattle.held.proofs.Laws.Runs.{lies-front, lies-back, lies-inside}
+use Rattle.held.proofs.Laws.RunsStatement.{texts-list}
+use Rattle.held.proofs.Laws.Places.{more-lies}
+use Rattle.held.proofs.Laws.Parts.{BehindLabel, BehindValue, statementLabelled, statement-labelled, statement-effect}
+use Rattle.held.proofs.Laws.Parts.{actions-lie, texts-values, action-lies, resource-lies, contexts-lie}
 use Rattle.decision.specs.Decision.{Found, nothing, found}
 use Rattle.candidates.specs.Entries.{Place, inAction, inResource}
 use Rattle.candidates.specs.Places.{placeNumber}
 use Rattle.rooms.specs.Rooms.{Slot, slotsAt, rowSlots, statementSlots, hits, rowHits}
 use Rattle.rooms.specs.Listing.{Effecting, Valued, no-value, a-value, Carried, Asked, no-context, Asking}
-use Rattle.rooms.specs.Listing.{Lists, Listable, statementFound}
+use Rattle.rooms.specs.Listing.{Lists, ListsTo, Listable, statementFound}
+use Rattle.rooms.specs.declared.listing.Noted.{Noted}
 use Rattle.rooms.proofs.Laws.ListingValues.{value-next, asked-next}
-use Rattle.rooms.proofs.Laws.ListingWalk.{lists-then}
+use Rattle.rooms.proofs.Laws.ListingWalk.{lists-then, lists-ending}
 use Rattle.rooms.proofs.Laws.ListingStatement.{slots-many}
 
 -- what a walk over a list noted, and one over rows
-abbrev pub EntriesListed : (effect place : ℕ) (run : List ℕ) (p : ℕ) (at : List ℕ) (v : ℕ) (dir : List ℕ) (o r : ℕ)
-    (after : List ℕ) → Type 0
-EntriesListed effect place run p at v dir o r after =
+abbrev pub EntriesListed : (effect place : ℕ) (run : List ℕ) (p : ℕ) (at : List ℕ) (v : ℕ) (dir : List ℕ) (o : ℕ)
+    (after : List ℕ) (g : Noted) → Type 0
+EntriesListed effect place run p at v dir o after g =
     (a : Effect) (k : Place) (xs : List Value) (f : Found) → effect ≡ effectNumber a → place ≡ placeNumber k
     → Lies run p (heldList heldValue xs) → Valued at v f
-    → Lists run at (slotsAt a k xs) (hits k f xs) dir o r after
+    → ListsTo run at (slotsAt a k xs) (hits k f xs) dir o after (p + length (heldList heldValue xs)) g
 
-abbrev pub RowsListed : (effect : ℕ) (run : List ℕ) (p : ℕ) (at : List ℕ) (v : ℕ) (dir : List ℕ) (o r : ℕ)
-    (after : List ℕ) → Type 0
-RowsListed effect run p at v dir o r after =
+abbrev pub RowsListed : (effect : ℕ) (run : List ℕ) (p : ℕ) (at : List ℕ) (v : ℕ) (dir : List ℕ) (o : ℕ)
+    (after : List ℕ) (g : Noted) → Type 0
+RowsListed effect run p at v dir o after g =
     (a : Effect) (xs : List Row) (cs : List Context) → effect ≡ effectNumber a → Lies run p (heldList heldRow xs)
-    → Asked at v cs → Lists run at (rowSlots a xs) (rowHits xs cs) dir o r after
+    → Asked at v cs
+    → ListsTo run at (rowSlots a xs) (rowHits xs cs) dir o after (p + length (heldList heldRow xs)) g
 
 module _ (s : Statement) where
   abbrev pub actionSlots : List Slot
@@ -44,40 +46,93 @@ module _ (s : Statement) where
   abbrev pub resourceSlots : List Slot
   resourceSlots = slotsAt (s .effect) inResource (map text (s .resources))
 
--- ---- what is noted of each
+  abbrev pub actionsLength : ℕ
+  actionsLength = length (heldList heldValue (map text (s .actions)))
+
+  abbrev pub resourcesLength : ℕ
+  resourcesLength = length (heldList heldValue (map text (s .resources)))
+
+-- ---- what is noted of each, one behind the other
+
+-- behind a list of texts lies what follows it
+behind-texts :
+    {run : List ℕ} {p e : ℕ} (xs : List (List ℕ)) (ys : List ℕ) → Lies run p (heldList heldText xs ++ ys)
+    → e ≡ p + length (heldList heldValue (map text xs)) → Lies run e ys
+behind-texts {run} {p} xs ys l far =
+    subst (λ (z : ℕ). Lies run z ys) (ap (λ (zs : List ℕ). p + length zs) (texts-list xs) ∙ sym far)
+    (lies-back (heldList heldText xs) ys l)
 
 module _ {run : List ℕ} {p a : ℕ} (s : Statement) (l : Lies run p (heldStatement s)) (far : BehindLabel run p a) where
+  label-far : a ≡ p + 2 + length (s .sid)
+  label-far = far (statementLabelled s) (statement-labelled s l)
+
   pub actions-listed :
-      {at dir mid : List ℕ} {v o m : ℕ} {f : Found} → EntriesListed (getD run p 0) 0 run a at v dir o m mid
-      → Valued at v f → Lists run at (actionSlots s) (hits inAction f (map text (s .actions))) dir o m mid
+      {at dir mid : List ℕ} {v o : ℕ} {f : Found} {g : Noted} → EntriesListed (getD run p 0) 0 run a at v dir o mid g
+      → Valued at v f
+      → ListsTo run at (actionSlots s) (hits inAction f (map text (s .actions))) dir o mid (a + actionsLength s) g
   actions-listed {f = f} x w =
       x (s .effect) inAction (map text (s .actions)) f (statement-effect s l) refl
       (texts-values (s .actions) (actions-lie s l far)) w
 
-  module _ {b : Seen} (at-b : ListPassed run a b) where
-    pub resources-listed :
-        {at dir mid : List ℕ} {v o m : ℕ} {f : Found} → EntriesListed (getD run p 0) 4 run (b .past) at v dir o m mid
-        → Valued at v f → Lists run at (resourceSlots s) (hits inResource f (map text (s .resources))) dir o m mid
-    resources-listed {f = f} x w =
-        x (s .effect) inResource (map text (s .resources)) f (statement-effect s l) refl
-        (texts-values (s .resources) (resources-lie s l far at-b)) w
+  module _ {b : ℕ} (at-b : b ≡ a + actionsLength s) where
+    behind-actions : Lies run b (heldList heldText (s .resources) ++ heldList heldRow (s .rows))
+    behind-actions =
+        behind-texts (s .actions) (heldList heldText (s .resources) ++ heldList heldRow (s .rows))
+        (more-lies (statementLabelled s) (statement-labelled s l) a label-far) at-b
 
-    pub rows-listed :
-        {at dir mid : List ℕ} {v o m : ℕ} {cs : List Context} {c : Seen} → ListPassed run (b .past) c
-        → RowsListed (getD run p 0) run (c .past) at v dir o m mid
-        → Asked at v cs → Lists run at (rowSlots (s .effect) (s .rows)) (rowHits (s .rows) cs) dir o m mid
-    rows-listed {cs = cs} at-c x w =
-        x (s .effect) (s .rows) cs (statement-effect s l) (rows-lie s l far at-b at-c) w
+    pub resources-lie : Lies run b (heldList heldValue (map text (s .resources)))
+    resources-lie =
+        texts-values (s .resources)
+        (lies-front (heldList heldText (s .resources)) (heldList heldRow (s .rows)) behind-actions)
+
+    pub resources-listed :
+        {at dir mid : List ℕ} {v o : ℕ} {f : Found} {g : Noted} → EntriesListed (getD run p 0) 4 run b at v dir o mid g
+        → Valued at v f
+        → ListsTo run at (resourceSlots s) (hits inResource f (map text (s .resources))) dir o mid
+        (b + resourcesLength s) g
+    resources-listed {f = f} x w =
+        x (s .effect) inResource (map text (s .resources)) f (statement-effect s l) refl resources-lie w
+
+    module _ {c : ℕ} (at-c : c ≡ b + resourcesLength s) where
+      pub rows-lie : Lies run c (heldList heldRow (s .rows))
+      rows-lie = behind-texts (s .resources) (heldList heldRow (s .rows)) behind-actions at-c
+
+      statement-ends : c + length (heldList heldRow (s .rows)) ≡ p + length (heldStatement s)
+      unfolding heldStatement
+      statement-ends =
+          let xs : List ℕ = heldList heldText (s .actions) in
+          let ys : List ℕ = heldList heldText (s .resources) in
+          let zs : List ℕ = heldList heldRow (s .rows) in
+          omega (
+            arith,
+            label-far,
+            at-b,
+            at-c,
+            ap length (texts-list (s .actions)),
+            ap length (texts-list (s .resources)),
+            length-append (s .sid) (xs ++ (ys ++ zs)),
+            length-append xs (ys ++ zs),
+            length-append ys zs,
+          )
+
+      -- the statement ends where its rows do
+      pub rows-listed :
+          {at dir mid : List ℕ} {v o : ℕ} {cs : List Context} {g : Noted}
+          → RowsListed (getD run p 0) run c at v dir o mid g → Asked at v cs
+          → ListsTo run at (rowSlots (s .effect) (s .rows)) (rowHits (s .rows) cs) dir o mid
+          (p + length (heldStatement s)) g
+      rows-listed {cs = cs} x w =
+          lists-ending statement-ends (x (s .effect) (s .rows) cs (statement-effect s l) rows-lie w)
 
 -- all of them
 pub statement-listed :
-    {run at dir one two after : List ℕ} {o m n r : ℕ} (s : Statement) (f g : Found) (cs : List Context)
+    {run at dir one two after : List ℕ} {o m n e : ℕ} {r : Noted} (s : Statement) (f g : Found) (cs : List Context)
     → Lists run at (actionSlots s) (hits inAction f (map text (s .actions))) dir o m one
     → Lists run at (resourceSlots s) (hits inResource g (map text (s .resources))) one m n two
-    → Lists run at (rowSlots (s .effect) (s .rows)) (rowHits (s .rows) cs) two n r after
-    → Lists run at (statementSlots s) (statementFound s f g cs) dir o r after
+    → ListsTo run at (rowSlots (s .effect) (s .rows)) (rowHits (s .rows) cs) two n after e r
+    → ListsTo run at (statementSlots s) (statementFound s f g cs) dir o after e r
 unfolding statementSlots statementFound
-statement-listed s f g cs x y z = lists-then x (lists-then y z)
+statement-listed s f g cs x y z = record { lists = lists-then x (lists-then y (z .lists)); past = z .past }
 
 -- ---- each has room
 
@@ -98,19 +153,19 @@ module _ {run dir : List ℕ} {p o : ℕ} (y : Listable heldStatement statementE
           room = omega (arith, y .room, length-map (y .thing .actions) text);
         }
 
-    module _ {at mid : List ℕ} {m : ℕ} {fs : List Found} (x : Lists run at (actionSlots (y .thing)) fs dir o m mid)
-        {b : Seen} (at-b : ListPassed run a b) where
-      pub resources-listable : Listable (heldList heldValue) length run (b .past) mid m
+    module _ {at mid : List ℕ} {fs : List Found} {b : Noted}
+        (x : ListsTo run at (actionSlots (y .thing)) fs dir o mid (a + actionsLength (y .thing)) b) where
+      pub resources-listable : Listable (heldList heldValue) length run (b .past) mid (b .next)
       unfolding statementEntries
       resources-listable =
           record {
             thing = map text (y .thing .resources);
-            lies = texts-values (y .thing .resources) (resources-lie (y .thing) (y .lies) far at-b);
+            lies = resources-lie (y .thing) (y .lies) far (x .past);
             room = omega (
               arith,
               y .room,
-              x .next,
-              x .size,
+              x .lists .next,
+              x .lists .size,
               slots-many (y .thing .effect) inAction (map text (y .thing .actions)),
               length-map (y .thing .actions) text,
               length-map (y .thing .resources) text,
@@ -118,21 +173,21 @@ module _ {run dir : List ℕ} {p o : ℕ} (y : Listable heldStatement statementE
           }
 
       pub rows-listable :
-          {after : List ℕ} {r : ℕ} {gs : List Found} {c : Seen} → ListPassed run (b .past) c
-          → Lists run at (resourceSlots (y .thing)) gs mid m r after
-          → Listable (heldList heldRow) rowEntries run (c .past) after r
+          {after : List ℕ} {gs : List Found} {c : Noted}
+          → ListsTo run at (resourceSlots (y .thing)) gs mid (b .next) after (b .past + resourcesLength (y .thing)) c
+          → Listable (heldList heldRow) rowEntries run (c .past) after (c .next)
       unfolding statementEntries
-      rows-listable at-c z =
+      rows-listable z =
           record {
             thing = y .thing .rows;
-            lies = rows-lie (y .thing) (y .lies) far at-b at-c;
+            lies = rows-lie (y .thing) (y .lies) far (x .past) (z .past);
             room = omega (
               arith,
               y .room,
-              x .next,
-              x .size,
-              z .next,
-              z .size,
+              x .lists .next,
+              x .lists .size,
+              z .lists .next,
+              z .lists .size,
               slots-many (y .thing .effect) inAction (map text (y .thing .actions)),
               slots-many (y .thing .effect) inResource (map text (y .thing .resources)),
               length-map (y .thing .actions) text,

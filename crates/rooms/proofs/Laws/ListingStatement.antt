@@ -1,21 +1,20 @@
 -- Slots of lists, rows, statements and policies: how many they are, and what is charged to them.
 use mathlib.Core.Path.{_≡_, refl, sym, ap, _∙_}
-use mathlib.Core.Bool.{Bool, true, false, true≢false}
+use mathlib.Core.Bool.{Bool, true, false, not, true≢false}
 use mathlib.Core.List.{List, [], _∷_, _++_, map}
 use Prim.Native.Nat.{ℕ}
 use native.Mathlib.Omega.{arith}
+use lib.Dec.{eqb}
 use lib.ListN.{length, length-append, length-map}
 use Rattle.chars.specs.Base.{pick}
 use Rattle.syntax.specs.Forms.{both}
 use Rattle.syntax.specs.Policy.{Effect, Allow, Deny, Value, text, Row, Statement, Policy, Request}
-use Rattle.held.specs.Held.{heldRequest, effectNumber, totalOf, rowEntries, statementEntries, entries}
-use Rattle.held.specs.Lying.{Lies}
+use Rattle.held.specs.Held.{effectNumber, totalOf, rowEntries, statementEntries, entries}
 use Rattle.decision.specs.Decision.{Found, nothing, found, valueAt, partOf, isNone, sameEffect}
 use Rattle.candidates.specs.Entries.{Place, inAction, inResource, inRow}
 use Rattle.rooms.specs.Rooms.{Slot, slotsAt, rowSlots, statementSlots, slots, hits, rowHits, statementHits}
-use Rattle.rooms.specs.Rooms.{none, isCharged, statementCharges, allowedCharges}
-use Rattle.rooms.specs.Listing.{statementFound, RequestIf, chargesIf}
-use Rattle.rooms.proofs.Laws.Listing.{allowed}
+use Rattle.rooms.specs.Rooms.{none, statementCharges}
+use Rattle.rooms.specs.Listing.{statementFound, denying}
 
 -- ---- how many
 
@@ -93,54 +92,45 @@ found-nothing s =
 -- ---- what a request charges
 
 module _ (s : Statement) (q : Request) where
-  pub charged-not : isCharged s q ≡ false → statementFound s nothing nothing [] ≡ statementCharges s q
+  abbrev hitsIf : Bool → List Found
+  hitsIf b = pick b (statementHits s q) (none (statementSlots s))
+
+module _ (s : Statement) (q : Request) {holds : Bool} where
+  pub hits-not : holds ≡ false → statementFound s nothing nothing [] ≡ hitsIf s q holds
+  hits-not e = found-nothing s ∙ sym (ap (hitsIf s q) e)
+
+  pub hits-all : holds ≡ true
+      → statementFound s (found (text (q .action))) (found (text (q .resource))) (q .context) ≡ hitsIf s q holds
+  unfolding statementHits statementFound
+  hits-all e = sym (ap (hitsIf s q) e)
+
+  -- a statement that denies is not listed
+  pub charges-are : holds ≡ isNone (partOf s q) → denying s holds ≡ false → hitsIf s q holds ≡ statementCharges s q
   unfolding statementCharges
-  charged-not e =
-      found-nothing s ∙ sym (ap (λ (b : Bool). pick b (statementHits s q) (none (statementSlots s))) e)
+  charges-are e d =
+      ap (hitsIf s q) (by (s .effect) holds d)
+      ∙ ap (λ (b : Bool). hitsIf s q (both (sameEffect (s .effect) Allow) b)) e
+    where
+      by : (a : Effect) (b : Bool) → both b (sameEffect Deny a) ≡ false → b ≡ both (sameEffect a Allow) b
+      by Allow b d = refl
+      by Deny true d = absurd (true≢false d)
+      by Deny false d = refl
 
-  pub charged-is :
-      isCharged s q ≡ true
-      → statementFound s (found (text (q .action))) (found (text (q .resource))) (q .context) ≡ statementCharges s q
-  unfolding statementCharges statementHits statementFound
-  charged-is e = sym (ap (λ (b : Bool). pick b (statementHits s q) (none (statementSlots s))) e)
+-- ---- whether a statement denies
 
-  -- by the effect's number and the first part that does not hold
-  module _ {k : ℕ} (f : k ≡ effectNumber (s .effect)) where
-    pub uncharged : (k ≡ 1 → ⊥) → false ≡ isCharged s q
-    uncharged h = by (s .effect) (λ z. h (f ∙ z))
-      where
-        by : (a : Effect) → (effectNumber a ≡ 1 → ⊥) → false ≡ both (sameEffect a Allow) (isNone (partOf s q))
-        by Allow h = absurd (h refl)
-        by Deny h = refl
+pub denies-not : (s : Statement) {holds : Bool} → holds ≡ false → false ≡ denying s holds
+denies-not s e = sym (ap (denying s) e)
 
-    pub charged-by : k ≡ 1 → isNone (partOf s q) ≡ isCharged s q
-    charged-by h =
-        sym (ap (λ (a : Effect). both (sameEffect a Allow) (isNone (partOf s q))) (allowed (s .effect) (sym f ∙ h)))
+pub denies-by : (s : Statement) {holds : Bool} {k : ℕ} → holds ≡ true → k ≡ effectNumber (s .effect)
+    → not (eqb k 1) ≡ denying s holds
+denies-by s {holds} {k} e f = ap (λ (n : ℕ). not (eqb n 1)) f ∙ by (s .effect) ∙ sym (ap (denying s) e)
+  where
+    by : (a : Effect) → not (eqb (effectNumber a) 1) ≡ both true (sameEffect Deny a)
+    by Allow = refl
+    by Deny = refl
 
-pub request-lies :
-    {at : List ℕ} (b : Bool) (q : Request) → b ≡ true → RequestIf b at q → Lies at 0 (heldRequest q)
-request-lies true q e l = l
-request-lies false q e l = absurd (true≢false (sym e))
+-- ---- statement by statement
 
--- what is charged to a statement, if at all
-abbrev pub statementChargesIf : Bool → Statement → Request → List Found
-statementChargesIf b s q = pick b (statementCharges s q) (none (statementSlots s))
-
-module _ (s : Statement) (q : Request) {b : Bool} where
-  pub charges-if : b ≡ true → statementCharges s q ≡ statementChargesIf b s q
-  charges-if e = sym (ap (λ (c : Bool). statementChargesIf c s q) e)
-
-  pub charges-not : b ≡ false → none (statementSlots s) ≡ statementChargesIf b s q
-  charges-not e = sym (ap (λ (c : Bool). statementChargesIf c s q) e)
-
-pub charges-more :
-    (b : Bool) (q : Request) (s : Statement) (p : Policy)
-    → chargesIf b (s ∷ p) q ≡ statementChargesIf b s q ++ chargesIf b p q
-unfolding allowedCharges slots
-charges-more true q s p = refl
-charges-more false q s p = none-append (statementSlots s) (slots p)
-
-pub charges-end : (b : Bool) (q : Request) → chargesIf b [] q ≡ []
-unfolding allowedCharges slots
-charges-end true q = refl
-charges-end false q = refl
+pub none-more : (s : Statement) (p : Policy) → none (slots (s ∷ p)) ≡ none (statementSlots s) ++ none (slots p)
+unfolding slots
+none-more s p = none-append (statementSlots s) (slots p)

@@ -1,36 +1,39 @@
 -- One turn of a walk: the entries of a list, the rows of a list, the statements of a policy.
 use mathlib.Core.Path.{_≡_, refl}
-use mathlib.Core.Bool.{Bool}
 use mathlib.Core.List.{List, [], _∷_, _++_}
 use Prim.Native.Nat.{ℕ, _+_, _*_, _≤_, _<_, _^_}
 use native.Mathlib.Omega.{arith}
-use lib.ListN.{length, getD, take}
-use Rattle.syntax.specs.Policy.{Effect, Value, Row, Statement, Policy, Context, Request}
-use Rattle.held.specs.Held.{heldValue, heldList, heldRow, heldStatement, held, effectNumber}
+use lib.ListN.{length, getD, take, length-append}
+use Rattle.syntax.specs.Policy.{Effect, Value, Row, Statement, Policy, Context}
+use Rattle.held.specs.Held.{heldEach, heldValue, heldList, heldRow, heldStatement, held, effectNumber, operatorNumber}
 use Rattle.held.specs.Held.{rowEntries, statementEntries, entries}
 use Rattle.held.specs.Lying.{Lies, Lying}
+use Rattle.held.specs.Places.{Labelled}
 use Rattle.held.proofs.Laws.Runs.{value-inside}
+use Rattle.held.proofs.Laws.RunsStatement.{policy-count, policy-lies}
 use Rattle.held.proofs.Laws.Parts.{BehindLabel, BehindValue, row-inside, row-operator, entries-lie}
 use Rattle.decision.specs.Decision.{Found, valueAt}
 use Rattle.candidates.specs.Entries.{Place, inRow}
 use Rattle.candidates.specs.Places.{placeNumber, Placed}
 use Rattle.rooms.specs.Rooms.{Slot, slotsAt, rowSlots, statementSlots, slots, hit, hits, rowHits}
-use Rattle.rooms.specs.Listing.{Effecting, Valued, Carried, Asked, Asking, Notes, noteNumbers, Lists, Listable}
-use Rattle.rooms.specs.Listing.{RequestIf, Charging, chargesIf}
+use Rattle.rooms.specs.Listing.{Effecting, Valued, Carried, Asked, Asking, Note, Notes, noteNumbers, Lists}
+use Rattle.rooms.specs.Listing.{ListsTo, Listable}
+use Rattle.rooms.specs.declared.listing.Noted.{Noted}
 use Rattle.rooms.proofs.Laws.ListingValues.{valued-short}
-use Rattle.rooms.proofs.Laws.ListingWalk.{lists-one, Walk, walk-lying, walk-room, walk-next}
+use Rattle.rooms.proofs.Laws.ListingWalk.{lists-ending, lists-one, Walk, walk-start, walk-lying, walk-room}
+use Rattle.rooms.proofs.Laws.ListingWalk.{walk-next, walk-end}
 use Rattle.rooms.proofs.Laws.ListingStatement.{slots-many, row-slots-many, statement-slots-many}
-use Rattle.rooms.proofs.Laws.ListingStatement.{policy-slots-many, statementChargesIf, charges-more}
+use Rattle.rooms.proofs.Laws.ListingStatement.{policy-slots-many}
 
 -- ---- the entries of a list are walked
 
 module _ (a : Effect) (p : Place) (xs : List Value) (f : Found) (run at dir₀ : List ℕ) (o₀ : ℕ) where
-  abbrev pub EntriesWalk : (n i e : ℕ) (dir : List ℕ) (o : ℕ) → Type 0
-  EntriesWalk n i e dir o =
-      Walk heldValue (slotsAt a p) (hits p f) run at dir₀ o₀ (slotsAt a p xs) (hits p f xs) n i e dir o
+  abbrev pub EntriesWalk : (ends n i e : ℕ) (dir : List ℕ) (o : ℕ) → Type 0
+  EntriesWalk ends n i e dir o =
+      Walk heldValue (slotsAt a p) (hits p f) run at dir₀ o₀ (slotsAt a p xs) (hits p f xs) ends n i e dir o
 
-module _ (a : Effect) (p : Place) (xs : List Value) (f : Found) {run at dir₀ dir : List ℕ} {o₀ n i e o : ℕ}
-    (w : EntriesWalk a p xs f run at dir₀ o₀ n i e dir o) (t : i < n) where
+module _ (a : Effect) (p : Place) (xs : List Value) (f : Found) {run at dir₀ dir : List ℕ} {o₀ ends n i e o : ℕ}
+    (w : EntriesWalk a p xs f run at dir₀ o₀ ends n i e dir o) (t : i < n) where
   one : Value → List Slot
   one x = record { effect = a; place = p; entry = x } ∷ []
 
@@ -45,11 +48,12 @@ module _ (a : Effect) (p : Place) (xs : List Value) (f : Found) {run at dir₀ d
       → Notes run at (record { handling = h; place = k; entry = e; value = v })
       (record { effect = a; place = p; entry = x }) (hit p f x))
       → (length after ≡ length dir) × (r ≡ o + noteNumbers) × (take r after ≡ take o dir ++ (h ∷ k ∷ e ∷ v ∷ []))
-      → EntriesWalk a p xs f run at dir₀ o₀ n (i + 1) q after r
+      → EntriesWalk a p xs f run at dir₀ o₀ ends n (i + 1) q after r
   unfolding one
   entry-next {q} {h} {k} {v} {after} {r} far told u =
-      walk-next w one (λ x ys. refl) (λ x. hit p f x ∷ []) (λ x ys. refl) t q after r far
-      (λ x l. lists-one (record { handling = h; place = k; entry = e; value = v }) (told x l) (u .0) (u .1) (u .2))
+      let x : Note = record { handling = h; place = k; entry = e; value = v } in
+      walk-next w one (λ x ys. refl) (λ x. hit p f x ∷ []) (λ x ys. refl) t after (record { next = r; past = q })
+      (λ y l. record { lists = lists-one x (told y l) (u .0) (u .1) (u .2); past = far y l })
 
 -- whichever entries lie there, and those that do
 abbrev pub EntriesWalks :
@@ -57,13 +61,15 @@ abbrev pub EntriesWalks :
     (o : ℕ) → Type 0
 EntriesWalks effect place run p at v dir₀ o₀ n i e dir o =
     (a : Effect) (k : Place) (xs : List Value) (f : Found) → effect ≡ effectNumber a → place ≡ placeNumber k
-    → Lies run p (heldList heldValue xs) → Valued at v f → EntriesWalk a k xs f run at dir₀ o₀ n i e dir o
+    → Lies run p (heldList heldValue xs) → Valued at v f
+    → EntriesWalk a k xs f run at dir₀ o₀ (p + 1 + length (heldEach heldValue xs)) n i e dir o
 
 module _ {effect place : ℕ} {run : List ℕ} {p : ℕ} {at : List ℕ} {v : ℕ} {dir₀ : List ℕ} {o₀ n i e : ℕ} {dir : List ℕ}
     {o : ℕ} (w : EntriesWalks effect place run p at v dir₀ o₀ n i e dir o)
     (y : (Effecting effect) × (Placed place) × (Listable (heldList heldValue) length run p dir₀ o₀) × (Carried at v))
   where
-    entries-here : EntriesWalk (y .0 .effect) (y .1 .place) (y .2 .thing) (y .3 .value) run at dir₀ o₀ n i e dir o
+    entries-here : EntriesWalk (y .0 .effect) (y .1 .place) (y .2 .thing) (y .3 .value) run at dir₀ o₀
+        (p + 1 + length (heldEach heldValue (y .2 .thing))) n i e dir o
     entries-here =
         w (y .0 .effect) (y .1 .place) (y .2 .thing) (y .3 .value) (y .0 .is) (y .1 .is) (y .2 .lies) (y .3 .valued)
 
@@ -87,13 +93,23 @@ module _ {effect place : ℕ} {run : List ℕ} {p : ℕ} {at : List ℕ} {v : �
 
 -- ---- the rows of a list are walked
 
-module _ (a : Effect) (xs : List Row) (cs : List Context) (run at dir₀ : List ℕ) (o₀ : ℕ) where
-  abbrev pub RowsWalk : (n i e : ℕ) (dir : List ℕ) (o : ℕ) → Type 0
-  RowsWalk n i e dir o =
-      Walk heldRow (rowSlots a) (λ ys. rowHits ys cs) run at dir₀ o₀ (rowSlots a xs) (rowHits xs cs) n i e dir o
+-- a row ends where its entries do
+row-ends :
+    {run : List ℕ} {p l : ℕ} (x : Row) → Lies run p (heldRow x) → BehindLabel run p l
+    → l + length (heldList heldValue (x .entries)) ≡ p + length (heldRow x)
+unfolding heldRow
+row-ends x m far =
+    let entries : List ℕ = heldList heldValue (x .entries) in
+    let z : Labelled = record { first = operatorNumber (x .operator); label = x .key; more = entries } in
+    omega (arith, far z m, length-append (x .key) entries)
 
-module _ (a : Effect) (xs : List Row) (cs : List Context) {run at dir₀ dir : List ℕ} {o₀ n i e o : ℕ}
-    (w : RowsWalk a xs cs run at dir₀ o₀ n i e dir o) (t : i < n) where
+module _ (a : Effect) (xs : List Row) (cs : List Context) (run at dir₀ : List ℕ) (o₀ : ℕ) where
+  abbrev pub RowsWalk : (ends n i e : ℕ) (dir : List ℕ) (o : ℕ) → Type 0
+  RowsWalk ends n i e dir o =
+      Walk heldRow (rowSlots a) (λ ys. rowHits ys cs) run at dir₀ o₀ (rowSlots a xs) (rowHits xs cs) ends n i e dir o
+
+module _ (a : Effect) (xs : List Row) (cs : List Context) {run at dir₀ dir : List ℕ} {o₀ ends n i e o : ℕ}
+    (w : RowsWalk a xs cs run at dir₀ o₀ ends n i e dir o) (t : i < n) where
   abbrev rowOne : Row → List Slot
   rowOne x = slotsAt a (inRow (x .operator)) (x .entries)
 
@@ -105,14 +121,15 @@ module _ (a : Effect) (xs : List Row) (cs : List Context) {run at dir₀ dir : L
       (λ x. slots-many a (inRow (x .operator)) (x .entries)) (omega (arith, room, row-slots-many a xs))
 
   pub row-next :
-      {q : ℕ} {after : List ℕ} {r : ℕ} → ((x : Row) → Lies run e (heldRow x) → q ≡ e + length (heldRow x))
+      {l : ℕ} {after : List ℕ} {g : Noted} → BehindLabel run e l
       → ((x : Row) → Lies run e (heldRow x)
-      → Lists run at (rowOne x) (hits (inRow (x .operator)) (valueAt (x .key) cs) (x .entries)) dir o r after)
-      → RowsWalk a xs cs run at dir₀ o₀ n (i + 1) q after r
+      → ListsTo run at (rowOne x) (hits (inRow (x .operator)) (valueAt (x .key) cs) (x .entries)) dir o after
+      (l + length (heldList heldValue (x .entries))) g)
+      → RowsWalk a xs cs run at dir₀ o₀ ends n (i + 1) (g .past) after (g .next)
   unfolding rowSlots rowHits
-  row-next {q} {after} {r} far f =
+  row-next {l} {after} {g} far f =
       walk-next w rowOne (λ x ys. refl) (λ x. hits (inRow (x .operator)) (valueAt (x .key) cs) (x .entries))
-      (λ x ys. refl) t q after r far f
+      (λ x ys. refl) t after g (λ x m. lists-ending (row-ends x m far) (f x m))
 
 -- whichever rows lie there, and those that do
 abbrev pub RowsWalks :
@@ -120,12 +137,13 @@ abbrev pub RowsWalks :
     → Type 0
 RowsWalks effect run p at v dir₀ o₀ n i e dir o =
     (a : Effect) (xs : List Row) (cs : List Context) → effect ≡ effectNumber a → Lies run p (heldList heldRow xs)
-    → Asked at v cs → RowsWalk a xs cs run at dir₀ o₀ n i e dir o
+    → Asked at v cs → RowsWalk a xs cs run at dir₀ o₀ (p + 1 + length (heldEach heldRow xs)) n i e dir o
 
 module _ {effect : ℕ} {run : List ℕ} {p : ℕ} {at : List ℕ} {v : ℕ} {dir₀ : List ℕ} {o₀ n i e : ℕ} {dir : List ℕ} {o : ℕ}
     (w : RowsWalks effect run p at v dir₀ o₀ n i e dir o)
     (y : (Effecting effect) × (Listable (heldList heldRow) rowEntries run p dir₀ o₀) × (Asking at v)) where
-  rows-here : RowsWalk (y .0 .effect) (y .1 .thing) (y .2 .context) run at dir₀ o₀ n i e dir o
+  rows-here : RowsWalk (y .0 .effect) (y .1 .thing) (y .2 .context) run at dir₀ o₀
+      (p + 1 + length (heldEach heldRow (y .1 .thing))) n i e dir o
   rows-here = w (y .0 .effect) (y .1 .thing) (y .2 .context) (y .0 .is) (y .1 .lies) (y .2 .asked)
 
   pub rows-size : length dir ≡ length dir₀
@@ -152,50 +170,34 @@ module _ {effect : ℕ} {run : List ℕ} {p : ℕ} {at : List ℕ} {v : ℕ} {di
         record { value = valueAt (x .key) (y .2 .context); valued = f x (y .2 .context) (z .lies) (y .2 .asked) },
       )
 
--- ---- the statements of a policy are walked
+-- ---- the statements of a policy are walked, with some values to each
 
-module _ (b : Bool) (p : Policy) (q : Request) (run at dir₀ : List ℕ) (o₀ : ℕ) where
+module _ (fs : Policy → List Found) (p : Policy) (run at dir₀ : List ℕ) where
   abbrev pub StatementsWalk : (n i e : ℕ) (dir : List ℕ) (o : ℕ) → Type 0
   StatementsWalk n i e dir o =
-      Walk heldStatement slots (λ s. chargesIf b s q) run at dir₀ o₀ (slots p) (chargesIf b p q) n i e dir o
+      Walk heldStatement slots fs run at dir₀ 0 (slots p) (fs p) (1 + length (heldEach heldStatement p)) n i e dir o
 
-module _ (b : Bool) (p : Policy) (q : Request) {run at dir₀ dir : List ℕ} {o₀ n i e o : ℕ}
-    (w : StatementsWalk b p q run at dir₀ o₀ n i e dir o) (t : i < n) where
-  statement-room :
-      o₀ + noteNumbers * entries p ≤ length dir₀ → Listable heldStatement statementEntries run e dir o
+  pub statements-start : Lies run 0 (held p) → StatementsWalk (getD run 0 0) 0 1 dir₀ 0
+  statements-start l = walk-start p (policy-count p l) (policy-lies p l)
+
+module _ (fs : Policy → List Found) (p : Policy) {run at dir₀ dir : List ℕ} {n i e o : ℕ}
+    (w : StatementsWalk fs p run at dir₀ n i e dir o) where
+  pub statement-room :
+      i < n → 0 + noteNumbers * entries p ≤ length dir₀ → Listable heldStatement statementEntries run e dir o
   unfolding slots
-  statement-room room =
+  statement-room t room =
       walk-room w statementSlots (λ x ys. refl) t statementEntries statement-slots-many
       (omega (arith, room, policy-slots-many p))
 
   pub statement-next :
-      {z : ℕ} {after : List ℕ} {r : ℕ} → ((x : Statement) → Lies run e (heldStatement x)
-      → z ≡ e + length (heldStatement x))
+      (some : Statement → List Found) → ((s : Statement) (ss : Policy) → fs (s ∷ ss) ≡ some s ++ fs ss) → i < n
+      → {after : List ℕ} {g : Noted}
       → ((x : Statement) → Lies run e (heldStatement x)
-      → Lists run at (statementSlots x) (statementChargesIf b x q) dir o r after)
-      → StatementsWalk b p q run at dir₀ o₀ n (i + 1) z after r
+      → ListsTo run at (statementSlots x) (some x) dir o after (e + length (heldStatement x)) g)
+      → StatementsWalk fs p run at dir₀ n (i + 1) (g .past) after (g .next)
   unfolding slots
-  statement-next {z} {after} {r} far f =
-      walk-next w statementSlots (λ x ys. refl) (λ x. statementChargesIf b x q) (charges-more b q) t z after r far f
+  statement-next some more t {after} {g} f = walk-next w statementSlots (λ x ys. refl) some more t after g f
 
--- whichever policy lies there, and the one that does
-abbrev pub StatementsWalks :
-    (b : Bool) (run at dir₀ : List ℕ) (o₀ n i e : ℕ) (dir : List ℕ) (o : ℕ) → Type 0
-StatementsWalks b run at dir₀ o₀ n i e dir o =
-    (p : Policy) (q : Request) → Lies run 0 (held p) → RequestIf b at q
-    → StatementsWalk b p q run at dir₀ o₀ n i e dir o
-
-module _ (b : Bool) {run at dir₀ : List ℕ} {o₀ n i e : ℕ} {dir : List ℕ} {o : ℕ}
-    (w : StatementsWalks b run at dir₀ o₀ n i e dir o)
-    (y : (Listable held entries run 0 dir₀ o₀) × (Charging b at)) where
-  statements-here : StatementsWalk b (y .0 .thing) (y .1 .request) run at dir₀ o₀ n i e dir o
-  statements-here = w (y .0 .thing) (y .1 .request) (y .0 .lies) (y .1 .lies)
-
-  pub statements-size : length dir ≡ length dir₀
-  statements-size = statements-here .lists .size
-
-  pub statement-there : i < n → Lying heldStatement run e
-  statement-there t = walk-lying statements-here t
-
-  pub statement-noting : i < n → (Listable heldStatement statementEntries run e dir o) × (Charging b at)
-  statement-noting t = (statement-room b (y .0 .thing) (y .1 .request) statements-here t (y .0 .room), y .1)
+  pub statements-end : n ≤ i → fs [] ≡ [] → Lists run at (slots p) (fs p) dir₀ 0 o dir
+  unfolding slots
+  statements-end t z = walk-end w t refl z .lists

@@ -1,14 +1,28 @@
--- The room is refused; or the record is looked at.
-use mathlib.Core.Path.{refl, sym, _∙_}
+-- The room is refused; or the record is looked at, with a run as long as it needs.
+use mathlib.Core.Path.{_≡_, sym, _∙_}
+use mathlib.Core.Bool.{Bool, true}
+use mathlib.Core.List.{List}
+use Prim.Native.Nat.{ℕ}
+use native.Mathlib.Omega.{arith}
 use borrow.Author.Tests.{not-true, not-false}
-use Rattle.refine.specs.Sound.{no-content}
+use Rattle.syntax.specs.Policy.{Policy}
+use Rattle.held.specs.Held.{held}
+use Rattle.held.specs.Lying.{Lies}
+use Rattle.refine.specs.Operations.{isRoom, holdsFor}
+use Rattle.refine.specs.Sound.{Sound, HeldSound, Holding, no-content}
 use borrow.Author.Needs.{needs}
 use Rattle.refine.proofs.operations.feed_held.Statement.{statement}
 use Rattle.refine.proofs.operations.feed_held.Tie as tie
-use Rattle.refine.proofs.operations.feed_held.Reads as reads
-use Rattle.refine.proofs.operations.feed_held.Lts as lts
-use Rattle.refine.proofs.operations.feed_record.Reads as feed-record-reads
-use Rattle.refine.proofs.operations.holds_room.Reads as holds-room-reads
+
+-- a room that was found to be the policy's is so
+holding : {run room : List ℕ} {r : Bool} → HeldSound run → isRoom room ≡ true
+    → ((p : Policy) → Lies run 0 (held p) → Sound p → r ≡ holdsFor p room) → r ≡ true → Holding run room
+holding sound size told is =
+    record {
+      held-sound = sound;
+      size = size;
+      content = sym (told (sound .policy) (sound .lies) (sound .sound)) ∙ is;
+    }
 
 holds-room-requires : tie.Need-holds-room-requires
 holds-room-requires c κs = search needs
@@ -19,37 +33,56 @@ same-length c = search needs
 returns : tie.Need-returns
 returns c =
     let at-holds-room = c .before in
-    λ p l s. no-content (sym (at-holds-room .holds-room .ensures p l s) ∙ not-true (at-holds-room .holds-room .result) (c .if1 .taken))
+    λ p l s. no-content
+    (sym (at-holds-room .holds-room .ensures p l s) ∙ not-true (at-holds-room .holds-room .result) (c .if1 .taken))
 
-slice-aggregate-feed-record : tie.Need-slice-aggregate-feed-record
-slice-aggregate-feed-record c = search needs
+slice-aggregate-feed-asked : tie.Need-slice-aggregate-feed-asked
+slice-aggregate-feed-asked c = search needs
 
-feed-record-requires : tie.Need-feed-record-requires
-feed-record-requires c κs =
-    let at-if1 = c .before .before in
+feed-asked-requires : tie.Need-feed-asked-requires
+feed-asked-requires c κs =
+    let at-if1 = c .before .before .before in
     let at-holds-room = at-if1 .before in
-    let start = at-holds-room .before .before .before .before .before in
-    let told = not-false (at-holds-room .holds-room .result) (at-if1 .if1 .left) in
-    let sound = start .pre .0 in
-    record {
-      holding = record {
-        held-sound = sound;
-        size = start .pre .1;
-        content = sym (at-holds-room .holds-room .ensures (sound .policy) (sound .lies) (sound .sound)) ∙ told;
-      };
-      size = refl;
-    }
+    let start = at-holds-room .before .before .before .before .before in (
+      holding (start .pre .0) (start .pre .1) (at-holds-room .holds-room .ensures)
+          (not-false (at-holds-room .holds-room .result) (at-if1 .if1 .left)),
+      record { enough = λ h. omega (arith, c .before .before .if2 .taken); bounded = omega arith },
+    )
 
 same-length-2 : tie.Need-same-length-2
 same-length-2 c = search needs
 
 returns-2 : tie.Need-returns-2
 returns-2 c =
-    let at-feed-record = c .before .before .before in
-    let at-if1 = at-feed-record .before .before .before in
+    let at-fed = c .before .before .before in
+    let at-if1 = at-fed .before .before .before .before in
     let at-holds-room = at-if1 .before in
     let told = not-false (at-holds-room .holds-room .result) (at-if1 .if1 .left) in
-    λ p l s. at-feed-record .feed-record .ensures .1 p l s (sym (at-holds-room .holds-room .ensures p l s) ∙ told)
+    λ p l s. at-fed .feed-asked .ensures .1 p l s (sym (at-holds-room .holds-room .ensures p l s) ∙ told)
+
+slice-aggregate-feed-asked-2 : tie.Need-slice-aggregate-feed-asked-2
+slice-aggregate-feed-asked-2 c = search needs
+
+feed-asked-requires-2 : tie.Need-feed-asked-requires-2
+feed-asked-requires-2 c κs =
+    let at-if1 = c .before .before .before in
+    let at-holds-room = at-if1 .before in
+    let start = at-holds-room .before .before .before .before .before in (
+      holding (start .pre .0) (start .pre .1) (at-holds-room .holds-room .ensures)
+          (not-false (at-holds-room .holds-room .result) (at-if1 .if1 .left)),
+      record { enough = λ h. omega arith; bounded = omega arith },
+    )
+
+same-length-3 : tie.Need-same-length-3
+same-length-3 c = search needs
+
+returns-3 : tie.Need-returns-3
+returns-3 c =
+    let at-fed = c .before .before .before in
+    let at-if1 = at-fed .before .before .before .before in
+    let at-holds-room = at-if1 .before in
+    let told = not-false (at-holds-room .holds-room .result) (at-if1 .if1 .left) in
+    λ p l s. at-fed .feed-asked2 .ensures .1 p l s (sym (at-holds-room .holds-room .ensures p l s) ∙ told)
 
 pub feed-held-spec : {M : Type 1} → statement M
 feed-held-spec =
@@ -58,7 +91,11 @@ feed-held-spec =
     holds-room-requires
     same-length
     returns
-    slice-aggregate-feed-record
-    feed-record-requires
+    slice-aggregate-feed-asked
+    feed-asked-requires
     same-length-2
-    returns-2)
+    returns-2
+    slice-aggregate-feed-asked-2
+    feed-asked-requires-2
+    same-length-3
+    returns-3)

@@ -1,7 +1,7 @@
 -- The list of the entries, and then the rows.
 use mathlib.Core.Path.{refl}
 use Rattle.rooms.specs.Rooms.{slots}
-use Rattle.refine.proofs.Laws.Held.{listable, no-request, listed, roomy}
+use Rattle.refine.proofs.Laws.Held.{listable, listed, roomy}
 use borrow.Author.Needs.{needs}
 use Rattle.refine.proofs.operations.holds_room.Statement.{statement}
 use Rattle.refine.proofs.operations.holds_room.Tie as tie
@@ -16,7 +16,7 @@ slice-aggregate-list-policy c = search needs
 list-policy-requires : tie.Need-list-policy-requires
 list-policy-requires c κs =
     let start = c .before .before .before in
-    (listable (start .pre .0) refl, no-request _)
+    listable (start .pre .0) refl
 
 slice-aggregate-fits-room : tie.Need-slice-aggregate-fits-room
 slice-aggregate-fits-room c = search needs
@@ -24,16 +24,12 @@ slice-aggregate-fits-room c = search needs
 fits-room-requires : tie.Need-fits-room-requires
 fits-room-requires c κs =
     let start = c .before .before .before .before .before .before in
-    let lists = c .before .before .list-policy .ensures (start .pre .0 .policy) (no-request (start .args .run .now)
-    .request) (start .pre .0 .lies) Prim.tt in
+    let lists = c .before .before .list-policy .ensures (start .pre .0 .policy) (start .pre .0 .lies) in
     roomy _ lists refl (start .pre .0 .sound) (start .pre .1)
 
 returns : tie.Need-returns
 returns c =
-    let at-list-policy = c .before .before .before in
-    let start = at-list-policy .before .before .before .before in
-    λ p l s. c .fits-room .ensures (slots p) _ (listed (at-list-policy .list-policy .ensures p (no-request (start
-    .args .run .now) .request) l Prim.tt) refl)
+    λ p l s. c .fits-room .ensures (slots p) _ (listed (c .before .before .before .list-policy .ensures p l) refl)
 
 pub holds-room-spec : {M : Type 1} → statement M
 holds-room-spec =

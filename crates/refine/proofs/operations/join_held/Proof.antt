@@ -3,7 +3,7 @@ use mathlib.Core.Path.{refl, sym, _∙_}
 use borrow.Author.Tests.{not-true, not-false}
 use Rattle.rooms.specs.Rooms.{slots}
 use Rattle.refine.specs.Sound.{no-content, no-other-content, joins}
-use Rattle.refine.proofs.Laws.Held.{listable, no-request, listed, roomy, meetable, rooms-joined}
+use Rattle.refine.proofs.Laws.Held.{listable, listed, roomy, meetable, rooms-joined}
 use borrow.Author.Needs.{needs}
 use Rattle.refine.proofs.operations.join_held.Statement.{statement}
 use Rattle.refine.proofs.operations.join_held.Tie as tie
@@ -19,7 +19,7 @@ slice-aggregate-list-policy c = search needs
 list-policy-requires : tie.Need-list-policy-requires
 list-policy-requires c κs =
     let start = c .before .before .before .before in
-    (listable (start .pre .0) refl, no-request _)
+    listable (start .pre .0) refl
 
 slice-aggregate-fits-room : tie.Need-slice-aggregate-fits-room
 slice-aggregate-fits-room c = search needs
@@ -28,9 +28,7 @@ fits-room-requires : tie.Need-fits-room-requires
 fits-room-requires c κs =
     let at-list-policy = c .before .before .before in
     let start = at-list-policy .before .before .before .before .before in
-    let none = no-request (start .args .run .now) in
-    let lists = at-list-policy .list-policy .ensures (start .pre .0 .policy) (none .request) (start .pre .0 .lies)
-    Prim.tt in
+    let lists = at-list-policy .list-policy .ensures (start .pre .0 .policy) (start .pre .0 .lies) in
     roomy _ lists refl (start .pre .0 .sound) (start .pre .1)
 
 same-length : tie.Need-same-length
@@ -40,10 +38,8 @@ returns : tie.Need-returns
 returns c =
     let at-fits-room = c .before in
     let at-list-policy = at-fits-room .before .before .before .before in
-    let start = at-list-policy .before .before .before .before .before in
-    let none = no-request (start .args .run .now) in
     λ p l s. no-content (sym (at-fits-room .fits-room .ensures (slots p) _ (listed (at-list-policy .list-policy
-    .ensures p (none .request) l Prim.tt) refl)) ∙ not-true (at-fits-room .fits-room .result) (c .if1 .taken))
+    .ensures p l) refl)) ∙ not-true (at-fits-room .fits-room .result) (c .if1 .taken))
 
 slice-aggregate-fits-room-2 : tie.Need-slice-aggregate-fits-room-2
 slice-aggregate-fits-room-2 c = search needs
@@ -52,9 +48,7 @@ fits-room-requires-2 : tie.Need-fits-room-requires-2
 fits-room-requires-2 c κs =
     let at-list-policy = c .before .before .before .before .before .before in
     let start = at-list-policy .before .before .before .before .before in
-    let none = no-request (start .args .run .now) in
-    let lists = at-list-policy .list-policy .ensures (start .pre .0 .policy) (none .request) (start .pre .0 .lies)
-    Prim.tt in
+    let lists = at-list-policy .list-policy .ensures (start .pre .0 .policy) (start .pre .0 .lies) in
     roomy _ lists refl (start .pre .0 .sound) (start .pre .2)
 
 same-length-2 : tie.Need-same-length-2
@@ -66,11 +60,9 @@ returns-2 c =
     let at-if1 = at-fits-room2 .before .before in
     let at-fits-room = at-if1 .before in
     let at-list-policy = at-fits-room .before .before .before .before in
-    let start = at-list-policy .before .before .before .before .before in
-    let none = no-request (start .args .run .now) in
     let left = not-false (at-fits-room .fits-room .result) (at-if1 .if1 .left) in
     λ p l s.
-    let t = listed (at-list-policy .list-policy .ensures p (none .request) l Prim.tt) refl in
+    let t = listed (at-list-policy .list-policy .ensures p l) refl in
     no-other-content (sym (at-fits-room .fits-room .ensures (slots p) _ t) ∙ left) (sym (at-fits-room2 .fits-room2
     .ensures (slots p) _ t) ∙ not-true (at-fits-room2 .fits-room2 .result) (c .if2 .taken))
 
@@ -84,9 +76,7 @@ join-room-requires c κs =
     let at-fits-room = at-if1 .before in
     let at-list-policy = at-fits-room .before .before .before .before in
     let start = at-list-policy .before .before .before .before .before in
-    let none = no-request (start .args .run .now) in
-    let lists = at-list-policy .list-policy .ensures (start .pre .0 .policy) (none .request) (start .pre .0 .lies)
-    Prim.tt in
+    let lists = at-list-policy .list-policy .ensures (start .pre .0 .policy) (start .pre .0 .lies) in
     let left = not-false (at-fits-room .fits-room .result) (at-if1 .if1 .left) in
     let other-left = not-false (at-fits-room2 .fits-room2 .result) (c .before .before .if2 .left) in
     meetable _ _ lists refl (start .pre .0 .sound) (start .pre .1) (start .pre .2) (sym (at-fits-room .fits-room
@@ -103,12 +93,10 @@ returns-3 c =
     let at-if1 = at-fits-room2 .before .before in
     let at-fits-room = at-if1 .before in
     let at-list-policy = at-fits-room .before .before .before .before in
-    let start = at-list-policy .before .before .before .before .before in
-    let none = no-request (start .args .run .now) in
     let left = not-false (at-fits-room .fits-room .result) (at-if1 .if1 .left) in
     let other-left = not-false (at-fits-room2 .fits-room2 .result) (at-if2 .if2 .left) in
     λ p l s.
-    let t = listed (at-list-policy .list-policy .ensures p (none .request) l Prim.tt) refl in
+    let t = listed (at-list-policy .list-policy .ensures p l) refl in
     let f = sym (at-fits-room .fits-room .ensures (slots p) _ t) ∙ left in
     let g = sym (at-fits-room2 .fits-room2 .ensures (slots p) _ t) ∙ other-left in
     rooms-joined p f g (c .before .before .join-room .ensures (slots p) _ t f g)

@@ -2,8 +2,9 @@
 use mathlib.Core.Path.{refl}
 use Prim.Native.Nat.{_-_}
 use native.Mathlib.Omega.{arith}
+use Rattle.held.specs.Held.{heldValue}
 use Rattle.held.proofs.Laws.Runs.{lies-first, lies-inside, lies-next}
-use Rattle.rooms.proofs.Laws.ListingWalk.{walk-start, walk-end}
+use Rattle.rooms.proofs.Laws.ListingWalk.{list-ending, walk-start, walk-end}
 use Rattle.rooms.proofs.Laws.ListingTurns.{EntriesWalks, entries-size, entry-lying, entry-noting, entry-next}
 use borrow.Author.Needs.{needs}
 use Rattle.rooms.proofs.listing.list_entries.Statement.{statement}
@@ -101,7 +102,9 @@ same-length c =
     entries-size (c .before .loop .inv) (start .pre)
 
 returns : tie.Need-returns Inv-loop μ-loop
-returns c = λ a p xs f e g l w. walk-end (c .before .loop .inv a p xs f e g l w) (c .loop-test .left) refl refl
+returns c =
+    λ a p xs f e g l w.
+    list-ending heldValue xs _ (walk-end (c .before .loop .inv a p xs f e g l w) (c .loop-test .left) refl refl)
 
 pub list-entries-spec : {M : Type 1} → statement M
 list-entries-spec =

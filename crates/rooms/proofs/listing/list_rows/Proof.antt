@@ -2,12 +2,13 @@
 use mathlib.Core.Path.{refl}
 use Prim.Native.Nat.{_-_}
 use native.Mathlib.Omega.{arith}
+use Rattle.held.specs.Held.{heldRow}
 use Rattle.held.proofs.Laws.Runs.{lies-first, lies-inside, lies-next}
 use Rattle.held.proofs.Laws.Parts.{row-operator, row-lying, entries-lie}
 use Rattle.decision.specs.Decision.{valueAt}
 use Rattle.candidates.specs.Entries.{inRow}
 use Rattle.rooms.specs.Rooms.{rowSlots, rowHits}
-use Rattle.rooms.proofs.Laws.ListingWalk.{walk-start, walk-end}
+use Rattle.rooms.proofs.Laws.ListingWalk.{list-ending, walk-start, walk-end}
 use Rattle.rooms.proofs.Laws.ListingTurns.{RowsWalks, rows-size, row-there, row-inside-there, row-noting}
 use Rattle.rooms.proofs.Laws.ListingTurns.{row-next}
 use borrow.Author.Needs.{needs}
@@ -76,16 +77,9 @@ list-entries-requires c κs =
     row-noting (at-loop .loop .inv) (start .pre) (at-loop-test .loop-test .taken)
     (c .before .before .behind-label .ensures) (c .before .before .before .value-of .ensures)
 
-row-requires : tie.Need-row-requires Inv-loop μ-loop
-row-requires c κs =
-    let at-loop-test = c .before .before .before .before .before .before .before in
-    let at-loop = at-loop-test .before in
-    let start = at-loop .before .before .before .before .before in
-    row-there (at-loop .loop .inv) (start .pre) (at-loop-test .loop-test .taken)
-
 add-i : tie.Need-add-i Inv-loop μ-loop
 add-i c =
-    let at-loop-test = c .before .before .before .before .before .before .before .before in
+    let at-loop-test = c .before .before .before .before .before .before .before in
     let at-shared-slice-known3 = at-loop-test .before .before in
     let start = at-shared-slice-known3 .before .before .before .before in
     omega (
@@ -100,14 +94,14 @@ loop-less c = search needs
 
 loop-again : tie.Need-loop-again Inv-loop μ-loop
 loop-again c =
-    let at-behind-label = c .before .before .before .before .before .before in
+    let at-behind-label = c .before .before .before .before .before in
     let at-value-of = at-behind-label .before in
     let at-loop-test = at-value-of .before in
     let at-loop = at-loop-test .before in
     λ a xs cs e l w.
     row-next a xs cs (at-loop .loop .inv a xs cs e l w) (at-loop-test .loop-test .taken)
-    (λ x m. c .row .ensures x m .past)
-    (λ x m. c .before .before .before .list-entries .ensures a (inRow (x .operator)) (x .entries)
+    (at-behind-label .behind-label .ensures)
+    (λ x m. c .before .before .list-entries .ensures a (inRow (x .operator)) (x .entries)
     (valueAt (x .key) cs) e (row-operator x m)
     (entries-lie x m (at-behind-label .behind-label .ensures)) (at-value-of .value-of .ensures x cs m w))
 
@@ -118,7 +112,9 @@ same-length c =
 
 returns : tie.Need-returns Inv-loop μ-loop
 unfolding rowSlots rowHits
-returns c = λ a xs cs e l w. walk-end (c .before .loop .inv a xs cs e l w) (c .loop-test .left) refl refl
+returns c =
+    λ a xs cs e l w.
+    list-ending heldRow xs _ (walk-end (c .before .loop .inv a xs cs e l w) (c .loop-test .left) refl refl)
 
 pub list-rows-spec : {M : Type 1} → statement M
 list-rows-spec =
@@ -136,7 +132,6 @@ list-rows-spec =
     mul-list-entries
     shared-slice-read-list-entries
     list-entries-requires
-    row-requires
     add-i
     loop-less
     loop-again

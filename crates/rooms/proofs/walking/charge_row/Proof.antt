@@ -1,5 +1,5 @@
--- By the number that the list has for the slot; a Deny entry is not charged.
-use mathlib.Core.Path.{sym, ap, _∙_, subst}
+-- By the number that the list has for the slot; a Deny entry is not charged, and what is covered changes nothing.
+use mathlib.Core.Path.{sym, subst}
 use mathlib.Core.List.{List}
 use Prim.Native.Nat.{ℕ, _≤_}
 use native.Mathlib.Omega.{arith}
@@ -9,6 +9,7 @@ use Rattle.rooms.proofs.Laws.Handling.{as-alone, as-wild, as-bound, not
 use Rattle.rooms.proofs.Laws.HandlingRows.{bound-value, wild-value, number-lies, text-lies, text-short}
 use Rattle.rooms.proofs.Laws.HandlingRows.{fed-alone, number-of, fed-bound, text-of, fed-wild, row-numbers}
 use Rattle.rooms.proofs.Laws.HandlingRows.{row-texts}
+use Rattle.rooms.proofs.Laws.Already.{wild-meets, fed-covered}
 use borrow.Author.Needs.{needs}
 use Rattle.rooms.proofs.walking.charge_row.Statement.{statement}
 use Rattle.rooms.proofs.walking.charge_row.Tie as tie
@@ -123,6 +124,50 @@ add-b c =
     let lent = text-lies (start .pre .lies) text in
     omega (arith, lent .ends, lent .bounded)
 
+mul-covers : tie.Need-mul-covers
+mul-covers c = search needs
+
+sub-covers : tie.Need-sub-covers
+sub-covers c = search needs
+
+part-covers-start : tie.Need-part-covers-start
+part-covers-start c = search needs
+
+part-covers-end : tie.Need-part-covers-end
+part-covers-end c =
+    let at-if2 = c .before .before .before in
+    let at-if1 = at-if2 .before in
+    let start = at-if1 .before .before .before .before in
+    let wild = as-wild (start .pre .stands) (not-denied (start .pre .stands) (start .pre .right .allows)) (at-if1 .if1
+    .left) (at-if2 .if2 .left) in
+    let text = wild-value wild (start .pre .value) (start .pre .right) in
+    let lent = text-lies (start .pre .lies) text in
+    lent .ends
+
+covers-requires : tie.Need-covers-requires
+covers-requires c κs =
+    let at-if2 = c .before .before .before .before in
+    let at-if1 = at-if2 .before in
+    let start = at-if1 .before .before .before .before in
+    let wild = as-wild (start .pre .stands) (not-denied (start .pre .stands) (start .pre .right .allows)) (at-if1 .if1
+    .left) (at-if2 .if2 .left) in
+    row-texts (start .pre .slot) _ (start .pre .fits) (start .pre .size) wild
+
+same-length-3 : tie.Need-same-length-3
+same-length-3 c = search needs
+
+returns-3 : tie.Need-returns-3
+returns-3 c =
+    let at-if2 = c .before .before .before .before .before .before in
+    let at-if1 = at-if2 .before in
+    let start = at-if1 .before .before .before .before in
+    λ s y a l r f.
+    let v = as-wild a (not-denied a (r .allows)) (at-if1 .if1 .left) (at-if2 .if2 .left) in
+    let t = wild-value v y r in
+    let e = text-lies l t .is in
+    fed-covered v t r (start .pre .size) f e (c .before .covers .ensures (s .place) (v .symbols) (wild-meets v t r e)
+    (c .if3 .taken))
+
 mul-charge-wild : tie.Need-mul-charge-wild
 mul-charge-wild c = search needs
 
@@ -134,10 +179,11 @@ part-charge-wild-start c = search needs
 
 part-charge-wild-end : tie.Need-part-charge-wild-end
 part-charge-wild-end c =
-    let at-if1 = c .before .before .before in
+    let at-if2 = c .before .before .before .before .before .before in
+    let at-if1 = at-if2 .before in
     let start = at-if1 .before .before .before .before in
     let wild = as-wild (start .pre .stands) (not-denied (start .pre .stands) (start .pre .right .allows)) (at-if1 .if1
-    .left) (c .before .before .if2 .left) in
+    .left) (at-if2 .if2 .left) in
     let symbols = wild-texted (start .pre .stands) wild in
     symbols .ends
 
@@ -152,7 +198,7 @@ part-charge-wild-start-2 c = search needs
 
 part-charge-wild-end-2 : tie.Need-part-charge-wild-end-2
 part-charge-wild-end-2 c =
-    let at-if2 = c .before .before .before in
+    let at-if2 = c .before .before .before .before .before .before .before in
     let at-if1 = at-if2 .before in
     let start = at-if1 .before .before .before .before in
     let wild = as-wild (start .pre .stands) (not-denied (start .pre .stands) (start .pre .right .allows)) (at-if1 .if1
@@ -163,7 +209,7 @@ part-charge-wild-end-2 c =
 
 charge-wild-requires : tie.Need-charge-wild-requires
 charge-wild-requires c κs =
-    let at-if2 = c .before .before .before .before .before in
+    let at-if2 = c .before .before .before .before .before .before .before .before .before in
     let at-if1 = at-if2 .before in
     let start = at-if1 .before .before .before .before in
     let wild = as-wild (start .pre .stands) (not-denied (start .pre .stands) (start .pre .right .allows)) (at-if1 .if1
@@ -177,12 +223,12 @@ charge-wild-requires c κs =
           (start .pre .fits) (start .pre .size) wild,
     )
 
-same-length-3 : tie.Need-same-length-3
-same-length-3 c = search needs
+same-length-4 : tie.Need-same-length-4
+same-length-4 c = search needs
 
-returns-3 : tie.Need-returns-3
-returns-3 c =
-    let at-if2 = c .before .before .before .before .before .before .before .before in
+returns-4 : tie.Need-returns-4
+returns-4 c =
+    let at-if2 = c .before .before .before .before .before .before .before .before .before .before .before .before in
     let at-if1 = at-if2 .before in
     let start = at-if1 .before .before .before .before in
     λ s y a l r f.
@@ -213,6 +259,13 @@ charge-row-spec =
     shared-slice-read-b
     cast-b
     add-b
+    mul-covers
+    sub-covers
+    part-covers-start
+    part-covers-end
+    covers-requires
+    same-length-3
+    returns-3
     mul-charge-wild
     sub-charge-wild
     part-charge-wild-start
@@ -222,5 +275,5 @@ charge-row-spec =
     part-charge-wild-start-2
     part-charge-wild-end-2
     charge-wild-requires
-    same-length-3
-    returns-3)
+    same-length-4
+    returns-4)
