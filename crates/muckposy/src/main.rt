@@ -36,9 +36,10 @@ fn finish(run: &[u32], room: &[u32])
     }
 }
 
-// One piece of the input.
+// One piece of the input, read into a lent run.
 fn feed_some(
     run: &[u32],
+    chunk: &mut [u8],
     line: &mut [u8],
     at: Reached,
     request: &mut [u32],
@@ -47,12 +48,11 @@ fn feed_some(
     requires { ⌜ Kept (now run) (now request) (now room) ⌝ }
     ensures { λ r. ⌜ Kept (now (run .entry)) (now (request .exit)) (now (room .exit)) ⌝ }
 {
-    let mut chunk = io::large_buffer();
-    let got = libc::read(0, &mut chunk);
+    let got = libc::read(0, chunk);
     if got < 0 {
         return Step::Failed;
     }
-    let n = io::count(got, &chunk);
+    let n = io::count(got, chunk);
     if n == 0 {
         return Step::Ended(at);
     }
@@ -65,10 +65,11 @@ fn feed_all(run: &[u32], line: &mut [u8], request: &mut [u32], room: &mut [u32])
     requires { ⌜ Kept (now run) (now request) (now room) ⌝ }
     ensures { λ r. ⌜ Kept (now (run .entry)) (now (request .exit)) (now (room .exit)) ⌝ }
 {
+    let mut chunk = io::large_buffer();
     let mut at = Reached { have: 0, number: 1 };
     let mut pieces = 18446744073709551615u64;
     while pieces > 0 {
-        let s = feed_some(run, line, at, request, room);
+        let s = feed_some(run, &mut chunk, line, at, request, room);
         match s {
             Step::Fed(to) => {
                 at = to;
