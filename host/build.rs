@@ -1,8 +1,5 @@
 //! Links the proved library.
 
 fn main() {
-    archive::link(
-        "refine",
-        &["text", "policy", "decision", "writing", "refine"],
-    );
+    archive::link("refine");
 }

@@ -1,5 +1,5 @@
 //! Links the proved text layer.
 
 fn main() {
-    archive::link("text_probe", &["text", "text_probe"]);
+    archive::link("text_probe");
 }

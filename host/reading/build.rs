@@ -1,5 +1,5 @@
 //! Links the proved readers of policies and records.
 
 fn main() {
-    archive::link("policy_probe", &["text", "policy", "policy_probe"]);
+    archive::link("policy_probe");
 }

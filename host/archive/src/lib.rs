@@ -13,18 +13,32 @@ use std::process::{exit, Command};
 const CRATES: &str = "crates.txt";
 
 /// Links the archive of a crate whose functions are exported. It is made again
-/// when one of these crates changes.
-pub fn link(library: &str, made_from: &[&str]) {
+/// when the crate or one that it depends on changes.
+pub fn link(library: &str) {
     let root = repository_root();
-    let crates = made_from.iter().map(|name| format!("crates/{name}"));
-    for source in crates.chain([CRATES.to_owned()]) {
-        println!("cargo:rerun-if-changed={}", root.join(source).display());
+    for source in made_from(&root, library) {
+        println!("cargo:rerun-if-changed={}", source.display());
     }
     println!("cargo:rerun-if-changed=build.rs");
     if let Err(reason) = one_at_a_time(&root, || build(&root, library)) {
         eprintln!("{reason}");
         exit(1);
     }
+}
+
+/// The list of crates, and the folders of a crate and of those that its line
+/// names: `NAME: DEP DEP ..`. The kit's libraries have no folder there.
+fn made_from(root: &Path, library: &str) -> Vec<PathBuf> {
+    let list = root.join(CRATES);
+    let text = fs::read_to_string(&list).expect("the root was found by its list");
+    let lines = text.lines().filter_map(|line| line.split_once(':'));
+    let own = lines.filter(|(name, _)| *name == library);
+    let names = own.flat_map(|(name, needs)| needs.split_whitespace().chain([name]));
+    let folders = names.map(|name| root.join("crates").join(name));
+    folders
+        .filter(|folder| folder.is_dir())
+        .chain([list])
+        .collect()
 }
 
 /// The folder above the package that has the list of crates.
