@@ -14,5 +14,6 @@ pub mod Records
 pub mod Entries
 pub mod Rows
 pub mod Conditions
+pub mod AsTexts
 pub mod Statements
 pub mod Policies

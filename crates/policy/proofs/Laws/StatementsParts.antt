@@ -4,18 +4,17 @@
 --   texts-laid, texts-left        Action and Resource entries are texts
 --   parts-holds ..                one part behind the other
 use mathlib.Core.Path.{_≡_, refl, sym, ap, _∙_, subst}
-use mathlib.Core.List.{List, [], _∷_, _++_, map}
+use mathlib.Core.List.{List, [], _∷_, _++_}
 use Prim.Native.Nat.{ℕ, _+_, _≤_, _<_}
 use native.Mathlib.Omega.{arith}
-use lib.ListN.{length, set, length-map}
-use Rattle.text.specs.Json.{Json, null, bool, number, string, list, object, Values, no-more, also}
+use lib.ListN.{length, set}
+use Rattle.text.specs.Json.{Json}
 use Rattle.text.specs.Contents.{Stands}
-use Rattle.syntax.specs.Policy.{Value, text}
 use Rattle.syntax.specs.Forms.{Reading, wrong, read}
-use Rattle.syntax.specs.Members.{then, Slot, none, one, many, optional, cons, each, some, oneOrMore}
+use Rattle.syntax.specs.Members.{Slot, none, one, many, optional, oneOrMore}
 use Rattle.parts.specs.Slots.{Placed, absent, stands}
 use Rattle.syntax.specs.PolicyLayout.{asText, actionOf, resourceOf, sidOf, conditionOf}
-use Rattle.held.specs.Held.{heldText, heldEach, heldList, heldValue, heldRow}
+use Rattle.held.specs.Held.{heldText, heldEach, heldList, heldRow}
 use Rattle.parts.specs.Room.{cost, Holdable, costOf, HoldableSlot}
 use Rattle.parts.specs.Holding.{Extends, Laid, Left, Holds, HoldsTo}
 use Rattle.policy.specs.Statements.{partsOf, heldParts}
@@ -23,9 +22,11 @@ use Rattle.parts.specs.declared.holding.Held.{Held}
 use Rattle.parts.specs.declared.holding.Held.the-variants as H
 use Rattle.parts.specs.declared.holding.Ended.{Ended}
 use Rattle.parts.specs.declared.holding.Ended.the-variants.{Past, Wrong}
+use Rattle.straight.proofs.Laws.AsTexts.{asTexts, texts}
+pub use Rattle.straight.proofs.Laws.AsTexts.{texts-laid}
 use Rattle.parts.proofs.Laws.Extends.{extends-none, extends-front, extends-then}
 use Rattle.parts.proofs.Laws.Formed.{then-wrong, then-read, left-then, ends-past, ends-wrong}
-use Rattle.parts.proofs.Laws.Fits.{wrong-read, then-inv, one-or-more-fits, sid-fits}
+use Rattle.parts.proofs.Laws.Fits.{wrong-read, one-or-more-fits, sid-fits}
 
 -- ---- a member that may be absent
 
@@ -86,66 +87,14 @@ no-rows = refl
 
 -- ---- entries as texts
 
-abbrev asTexts : Reading (List (List ℕ)) → Reading (List Value)
-asTexts x = then x (λ l. read (map text l))
-
-cons-texts : (x : Reading (List ℕ)) (y : Reading (List (List ℕ))) → cons (asText x) (asTexts y) ≡ asTexts (cons x y)
-cons-texts wrong y = refl
-cons-texts (read x) wrong = refl
-cons-texts (read x) (read y) = refl
-
-each-held : (l : List (List ℕ)) → heldEach heldValue (map text l) ≡ heldEach heldText l
-unfolding heldEach
-each-held [] = refl
-each-held (x ∷ l) = ap (λ (m : List ℕ). heldText x ++ m) (each-held l)
-
-list-held : (l : List (List ℕ)) → heldList heldValue (map text l) ≡ heldList heldText l
-list-held l =
-    ap (λ (n : ℕ). n ∷ heldEach heldValue (map text l)) (length-map l text)
-    ∙ ap (λ (m : List ℕ). length l ∷ m) (each-held l)
-
 texts-wrong : (x : Reading (List (List ℕ))) → asTexts x ≡ wrong → x ≡ wrong
 texts-wrong wrong e = refl
 texts-wrong (read l) e = wrong-read (sym e)
 
 module _ (g : Json → Reading (List ℕ)) where
-  each-texts : (ts : Values) → each (λ t. asText (g t)) ts ≡ asTexts (each g ts)
-  unfolding each
-  each-texts no-more = refl
-  each-texts (also t ts) =
-      ap (λ (y : Reading (List Value)). cons (asText (g t)) y) (each-texts ts) ∙ cons-texts (g t) (each g ts)
-
-  some-texts : (ts : Values) → some (λ t. asText (g t)) ts ≡ asTexts (some g ts)
-  unfolding some
-  some-texts no-more = refl
-  some-texts (also t ts) = each-texts (also t ts)
-
-  texts : (t : Json) → oneOrMore (λ t. asText (g t)) t ≡ asTexts (oneOrMore g t)
-  unfolding oneOrMore
-  texts null = cons-texts (g null) (read [])
-  texts (bool b) = cons-texts (g (bool b)) (read [])
-  texts (number w) = cons-texts (g (number w)) (read [])
-  texts (string w) = cons-texts (g (string w)) (read [])
-  texts (list ts) = some-texts ts
-  texts (object ms) = cons-texts (g (object ms)) (read [])
-
   pub texts-left : {run run′ : List ℕ} (t : Json) → Left run run′ (oneOrMore (λ t. asText (g t)) t)
       → Left run run′ (oneOrMore g t)
-  texts-left t l = record { size = l .size; said = texts-wrong (oneOrMore g t) (sym (texts t) ∙ l .said) }
-
-  pub texts-laid :
-      {run run′ : List ℕ} {at p : ℕ} (t : Json)
-      → Laid (heldList heldValue) run run′ at (oneOrMore (λ t. asText (g t)) t) p
-      → Laid (heldList heldText) run run′ at (oneOrMore g t) p
-  texts-laid {run} {run′} {at} {p} t d =
-      let i = then-inv (oneOrMore g t) (λ l. read (map text l)) (sym (texts t) ∙ d .said) in
-      let e : map text (i .thing) ≡ d .thing = let z = i .next in cc in
-      record {
-        thing = i .thing;
-        said = i .said;
-        extends = subst (λ (l : List ℕ). Extends run run′ at l p)
-            (ap (heldList heldValue) (sym e) ∙ list-held (i .thing)) (d .extends);
-      }
+  texts-left t l = record { size = l .size; said = texts-wrong (oneOrMore g t) (sym (texts g t) ∙ l .said) }
 
 -- ---- where the parts end
 

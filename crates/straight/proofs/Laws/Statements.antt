@@ -3,33 +3,34 @@
 --   labelled-takes, unlabelled-takes   a statement with a Sid, and one without
 use mathlib.Core.Path.{_≡_, refl, sym, ap, _∙_, subst}
 use mathlib.Core.Bool.{Bool, true, false}
-use mathlib.Core.List.{List, [], _∷_, _++_, map}
+use mathlib.Core.List.{List, [], _∷_, _++_}
 use Prim.Native.Nat.{ℕ, _+_, _≤_, _<_}
 use native.Mathlib.Omega.{arith}
-use lib.ListN.{length, set, length-set, length-map}
+use lib.ListN.{length, set, length-set}
 use Rattle.chars.specs.Base.{pick}
 use Rattle.chars.specs.Decoding.{textOf, sameText, meaning, unitsBehind, readOf, sequenceOf, equal}
-use Rattle.text.specs.Json.{Json, null, bool, number, string, list, object, Values, no-more, also, named, depth, depthm}
-use Rattle.syntax.specs.Policy.{Effect, Allow, Deny, Value, text, Row, Statement}
+use Rattle.text.specs.Json.{Json, number, object, named, depth, depthm}
+use Rattle.syntax.specs.Policy.{Effect, Allow, Deny, Row, Statement}
 use Rattle.syntax.specs.Forms.{Reading, wrong, read}
 use Rattle.syntax.specs.Words.{sidWord, effectWord, actionWord, resourceWord, conditionWord, allowWord, denyWord}
-use Rattle.syntax.specs.Members.{then, isWord, Slot, none, many, one, slot, isAmong, known, optional, cons, each, some}
+use Rattle.syntax.specs.Members.{then, isWord, Slot, none, many, one, slot, isAmong, known, optional, some}
 use Rattle.syntax.specs.Members.{oneOrMore}
-use Rattle.syntax.specs.PolicyLayout.{asText, actionOf, resourceOf, conditionOf, effectOf, sidOf, statementIn}
+use Rattle.syntax.specs.PolicyLayout.{actionOf, resourceOf, conditionOf, effectOf, sidOf, statementIn}
 use Rattle.syntax.specs.PolicyLayout.{statementOf}
-use Rattle.held.specs.Held.{heldText, heldEach, heldList, heldValue, effectNumber, heldRow, heldStatement}
+use Rattle.held.specs.Held.{heldText, heldList, heldValue, effectNumber, heldRow, heldStatement}
 use Rattle.parts.specs.Room.{Roomy}
 use Rattle.parts.specs.Holding.{Extends, Laid, entryOf}
 use Rattle.parts.specs.declared.entries.Entry.the-variants as E
 use Rattle.parts.specs.declared.holding.Ended.{Ended}
 use Rattle.parts.specs.declared.holding.Ended.the-variants as N
 use Rattle.parts.proofs.Laws.Extends.{extends-none, extends-front, extends-then}
-use Rattle.parts.proofs.Laws.Fits.{wrong-read, then-inv}
+use Rattle.parts.proofs.Laws.Fits.{wrong-read}
 use Rattle.parts.proofs.Laws.Formed.{then-read}
 use Rattle.straight.specs.Marks.{First, Next}
 use Rattle.straight.specs.Taking.{Taken, Takes, TakenLast, TakesLast}
 use Rattle.straight.specs.Usual.{Told, effectNamed, Lists, listsOf, heldLists, partsIn, TakenParts, TakesParts}
 use Rattle.straight.specs.Usual.{TakenGranted, TakesGranted}
+use Rattle.straight.proofs.Laws.AsTexts.{texts-laid}
 use Rattle.straight.proofs.Laws.Reads.{first-reads, next-reads}
 use Rattle.straight.proofs.Laws.Taking.{extends-roomy}
 
@@ -50,61 +51,6 @@ effective false false i n = absurd (n i)
 effect-said : {s : List ℕ} {v k e : ℕ} (t : Told effectNamed s v k e) → Effective (effectOf (t .tree)) k
 unfolding effectOf
 effect-said t = effective (isWord allowWord (t .tree)) (isWord denyWord (t .tree)) (t .is) (t .some)
-
--- ---- entries as texts
-
-abbrev asTexts : Reading (List (List ℕ)) → Reading (List Value)
-asTexts x = then x (λ l. read (map text l))
-
-cons-texts : (x : Reading (List ℕ)) (y : Reading (List (List ℕ))) → cons (asText x) (asTexts y) ≡ asTexts (cons x y)
-cons-texts wrong y = refl
-cons-texts (read x) wrong = refl
-cons-texts (read x) (read y) = refl
-
-each-held : (l : List (List ℕ)) → heldEach heldValue (map text l) ≡ heldEach heldText l
-unfolding heldEach
-each-held [] = refl
-each-held (x ∷ l) = ap (λ (m : List ℕ). heldText x ++ m) (each-held l)
-
-list-held : (l : List (List ℕ)) → heldList heldValue (map text l) ≡ heldList heldText l
-list-held l =
-    ap (λ (n : ℕ). n ∷ heldEach heldValue (map text l)) (length-map l text)
-    ∙ ap (λ (m : List ℕ). length l ∷ m) (each-held l)
-
-module _ (g : Json → Reading (List ℕ)) where
-  each-texts : (ts : Values) → each (λ t. asText (g t)) ts ≡ asTexts (each g ts)
-  unfolding each
-  each-texts no-more = refl
-  each-texts (also t ts) =
-      ap (λ (y : Reading (List Value)). cons (asText (g t)) y) (each-texts ts) ∙ cons-texts (g t) (each g ts)
-
-  some-texts : (ts : Values) → some (λ t. asText (g t)) ts ≡ asTexts (some g ts)
-  unfolding some
-  some-texts no-more = refl
-  some-texts (also t ts) = each-texts (also t ts)
-
-  texts : (t : Json) → oneOrMore (λ t. asText (g t)) t ≡ asTexts (oneOrMore g t)
-  unfolding oneOrMore
-  texts null = cons-texts (g null) (read [])
-  texts (bool b) = cons-texts (g (bool b)) (read [])
-  texts (number w) = cons-texts (g (number w)) (read [])
-  texts (string w) = cons-texts (g (string w)) (read [])
-  texts (list ts) = some-texts ts
-  texts (object ms) = cons-texts (g (object ms)) (read [])
-
-  pub texts-laid :
-      {run run′ : List ℕ} {at p : ℕ} (t : Json)
-      → Laid (heldList heldValue) run run′ at (oneOrMore (λ t. asText (g t)) t) p
-      → Laid (heldList heldText) run run′ at (oneOrMore g t) p
-  texts-laid {run} {run′} {at} {p} t d =
-      let i = then-inv (oneOrMore g t) (λ l. read (map text l)) (sym (texts t) ∙ d .said) in
-      let e : map text (i .thing) ≡ d .thing = let z = i .next in cc in
-      record {
-        thing = i .thing;
-        said = i .said;
-        extends = subst (λ (l : List ℕ). Extends run run′ at l p)
-            (ap (heldList heldValue) (sym e) ∙ list-held (i .thing)) (d .extends);
-      }
 
 -- ---- behind the effect
 
