@@ -1,4 +1,4 @@
-// Records and policies in the form that most have, judged and held in one walk: members in the layout's order, their names
+// Records and policies in the usual form, judged and held in one walk: members in the layout's order, their names
 // written plainly. Whatever else a text is, this gives it up, and it is read in two walks.
 pub mod contexts;
 pub mod entries;

@@ -1,4 +1,4 @@
-// What stands between values: brackets, commas, names. Each function answers the place behind what it passes; or 0, where
+// What stands between values: brackets, commas, names. Each function answers the place behind what it passes, or 0 where
 // something else stands.
 ghost use mathlib.Core.Path.{_≡_};
 ghost use mathlib.Core.Bool.{true};

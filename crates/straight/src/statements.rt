@@ -1,4 +1,4 @@
-// A statement judged and held in one walk: Sid, if it is there, Effect, Action, Resource, and Condition, if it is there.
+// A statement judged and held in one walk: Sid if it is there, Effect, Action, Resource, and Condition if it is there.
 ghost use mathlib.Core.List.{[]};
 ghost use Prim.Native.Nat.{_+_, _≤_, _<_};
 ghost use lib.ListN.{length};
@@ -115,7 +115,7 @@ fn granted(s: &[u8], v: usize, run: &mut [u32], at: usize, to: usize) -> Ended
     parts(s, end, run, to)
 }
 
-// A statement with a Sid, whose value stands at a place.
+// A statement with a Sid.
 fn labelled(s: &[u8], v: usize, run: &mut [u32], at: usize) -> Ended
     requires { ⌜ Roomy (now run) at 0 ⌝ }
     ensures { λ r. ⌜ Takes heldStatement statementOf 4 (now (s .entry)) (now (run .entry)) (now (run .exit)) v at r ⌝ }
