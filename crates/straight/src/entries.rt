@@ -1,5 +1,4 @@
 // The entries of a policy's lists judged and held in one walk.
-ghost use mathlib.Core.Path.{_≡_};
 ghost use Rattle.syntax.specs.Forms.{symbolsOf};
 ghost use Rattle.syntax.specs.Members.{then, charactersOf, oneOrMore};
 ghost use Rattle.syntax.specs.PolicyLayout.{sidOf, actionOf, resourceOf, numberOfJson};
