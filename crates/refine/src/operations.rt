@@ -4,7 +4,7 @@ ghost use mathlib.Core.Bool.{true};
 ghost use Rattle.syntax.specs.Limits.{policyBytes, recordBytes};
 ghost use Rattle.syntax.specs.Policy.{Policy, Request};
 ghost use Rattle.held.specs.Held.{held, heldRequest};
-ghost use Rattle.held.specs.Lying.{Lies};
+ghost use Rattle.held.specs.Lying.{Lies, Lying};
 ghost use Rattle.policy.specs.Reading.{Lent};
 ghost use Rattle.decision.specs.Decision.{decide};
 ghost use Rattle.decision.specs.Operations as deciding;
