@@ -1,0 +1,5 @@
+-- What the contracts of `objects` cite.
+pub mod Filling
+pub mod Gathering
+pub mod Spans
+pub mod Statements
