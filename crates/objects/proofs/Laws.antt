@@ -1,5 +1,7 @@
 -- What is proved of the definitions, by subject.
 pub mod Filling
 pub mod Gathering
+pub mod Policies
+pub mod Records
 pub mod Settling
 pub mod Statements

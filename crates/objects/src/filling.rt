@@ -25,3 +25,25 @@ pub fn with_zero(run: &mut [u32], spans: [usize; 12], k: usize) -> [usize; 12]
     filled[1] = p + 1;
     filled
 }
+
+// "*" behind all parts for a resource, the part of turn 2, if it is absent.
+pub fn with_star(run: &mut [u32], spans: [usize; 12]) -> [usize; 12]
+    requires { ⌜ behind spans ≤ length (now run) ⌝ }
+    ensures { λ r. ⌜ Filled (1 ∷ 42 ∷ []) (now (run .entry)) (now (run .exit)) spans r 2 ⌝ }
+{
+    if spans[5] != 0 {
+        return spans;
+    }
+    let p = spans[1];
+    let mut filled = spans;
+    if run.len() - p < 2 {
+        filled[0] = 0;
+        return filled;
+    }
+    run[p + 1] = 42;
+    run[p] = 1;
+    filled[4] = p;
+    filled[5] = p + 2;
+    filled[1] = p + 2;
+    filled
+}

@@ -3,5 +3,7 @@
 // plainly; whatever else a text is, this gives it up, and it is read in two walks.
 pub mod filling;
 pub mod members;
+pub mod policies;
+pub mod records;
 pub mod settling;
 pub mod statements;

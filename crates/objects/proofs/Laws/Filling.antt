@@ -26,7 +26,7 @@ use Rattle.objects.specs.Spans.{fromOf, toOf, behind, piece, Span}
 use Rattle.objects.specs.Gathering.{How, laid, told, Kinded, Laying, Found, SlotFound, PartHeld, Parts, laidAs, toldAs}
 use Rattle.objects.specs.Filling.{numbers, Ready, noted, Filled, there, absent, no-room}
 use Rattle.objects.proofs.Laws.Settling.{extends-here, extends-part}
-use Rattle.objects.proofs.Laws.Gathering.{extends-still, slot-none}
+use Rattle.objects.proofs.Laws.Gathering.{extends-still, slot-still, slot-none}
 
 -- ---- values taken
 
@@ -193,6 +193,17 @@ module _ {xs run run′ m m′ : List ℕ} {k : ℕ} (size : length m ≡ 12) (o
       (filled-place f (j + j) (omega arith) (λ e. d (omega arith)) (λ e. absurd (omega arith)))
       (filled-place f (j + j + 1) (omega arith) (λ e. absurd (omega arith)) (λ e. d (omega arith)))
 
+  -- a member of another turn, there or not
+  pub filled-slot : (h : How) (x : Slot) (j : ℕ) → Filled xs run run′ m m′ k → 0 < j → (j ≡ k → ⊥)
+      → SlotFound h run (behind m) x (fromOf m j) (toOf m j) → SlotFound h run′ (behind m′) x (fromOf m′ j) (toOf m′ j)
+  filled-slot h x j f p d y =
+      let w = filled-whole f in
+      let a = filled-place f (j + j) (omega arith) (λ e. d (omega arith)) (λ e. absurd (omega arith)) in
+      let b = filled-place f (j + j + 1) (omega arith) (λ e. absurd (omega arith)) (λ e. d (omega arith)) in
+      let z = slot-still (w .more) (w .kept) (fromOf m j) (toOf m j) h x y in
+      subst (λ (q : ℕ). SlotFound h run′ (behind m′) x q (toOf m′ j)) (sym a)
+      (subst (λ (q : ℕ). SlotFound h run′ (behind m′) x (fromOf m j) q) (sym b) z)
+
   -- a part, or the numbers of d for an absent one
   pub filled-ready : {A : Type 0} (h : A → List ℕ) (f : Json → Reading A) (d : A) (x : Slot) → h d ≡ xs
       → SlotFound (laid (numbers h f)) run (behind m) x (fromOf m k) (toOf m k) → Filled xs run run′ m m′ k
@@ -235,3 +246,14 @@ zero-absent {run} {m} e low =
 
 pub no-zero : {run m : List ℕ} {k : ℕ} (xs : List ℕ) → length m ≡ 12 → Filled xs run run m (set m 0 0) k
 no-zero {m = m} xs size = no-room (getD-set-same m 0 0 0 (omega arith)) refl (length-set m 0 0)
+
+pub star-absent : {run m : List ℕ} → toOf m 2 ≡ 0 → behind m + 2 ≤ length run
+    → Filled (1 ∷ 42 ∷ []) run (set (set run (behind m + 1) 42) (behind m) 1) m
+    (noted m 2 (behind m) (behind m + 2) (behind m + 2)) 2
+star-absent {run} {m} e low =
+    let there : behind m + 1 + 1 ≡ behind m + 2 = omega arith in
+    let y = extends-front 42 (omega arith) (extends-none run (behind m + 1 + 1)) in
+    let x = subst (Extends run (set (set run (behind m + 1) 42) (behind m) 1) (behind m) (1 ∷ 42 ∷ [])) there
+    (extends-front 1 (omega arith) y) in
+    absent e refl (omega arith) (omega arith) (omega (arith, x .size)) (extends-here (omega arith) x)
+    (extends-kept x (omega arith))

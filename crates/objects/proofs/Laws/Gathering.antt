@@ -84,7 +84,7 @@ module _ {run run′ : List ℕ} {p q : ℕ} (l : p ≤ q) (k : Kept run run′ 
       }
   found-still (told g) t x = x
 
-  slot-still : (h : How) (x : Slot) → SlotFound h run p x from to → SlotFound h run′ q x from to
+  pub slot-still : (h : How) (x : Slot) → SlotFound h run p x from to → SlotFound h run′ q x from to
   slot-still h none y = y
   slot-still h many y = y
   slot-still h (one t) y = found-still h t y

@@ -160,7 +160,7 @@ pub record Copying (run₀ run m : List ℕ) (first n p : ℕ) : Type 0 where
   pub extends : Extends run₀ run (behind m) rest p
   pub joins : inTurn run₀ m n ≡ inTurn run₀ m first ++ rest
 
-append-nothing : (xs : List ℕ) → xs ≡ xs ++ []
+pub append-nothing : (xs : List ℕ) → xs ≡ xs ++ []
 append-nothing [] = refl
 append-nothing (x ∷ xs) = ap (λ (l : List ℕ). x ∷ l) (append-nothing xs)
 
