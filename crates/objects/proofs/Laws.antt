@@ -1,7 +1,9 @@
 -- What is proved of the definitions, by subject.
+pub mod Contexts
 pub mod Filling
 pub mod Gathering
 pub mod Policies
 pub mod Records
 pub mod Settling
 pub mod Statements
+pub mod Words

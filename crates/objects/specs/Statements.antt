@@ -12,7 +12,7 @@ use Rattle.syntax.specs.Words.{sidWord, effectWord, actionWord, resourceWord, c
 use Rattle.syntax.specs.Members.{then, Slot, required, optional, oneOrMore}
 use Rattle.syntax.specs.PolicyLayout.{sidOf, effectOf, actionOf, resourceOf, conditionOf}
 use Rattle.held.specs.Held.{heldText, heldList, heldRow}
-use Rattle.straight.specs.Usual.{effectNamed}
+use Rattle.objects.specs.Telling.{effectNamed}
 use Rattle.objects.specs.Spans.{fromOf, toOf, behind}
 use Rattle.objects.specs.Gathering.{How, laid, told, Kinded, SlotFound}
 use Rattle.objects.specs.Filling.{numbers, Ready}

@@ -7,7 +7,7 @@ ghost use Rattle.syntax.specs.PolicyLayout.{statementOf, sameSid, policyOf};
 ghost use Rattle.held.specs.Held.{heldStatement, held};
 ghost use Rattle.parts.specs.Room.{Roomy};
 ghost use Rattle.straight.specs.Taking.{Takes, TakesSeveral};
-ghost use Rattle.straight.specs.Usual.{TakesText};
+ghost use Rattle.objects.specs.Telling.{TakesText};
 use crate::statements;
 use held::runs;
 use parts::holding::Ended;

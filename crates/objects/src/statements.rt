@@ -10,7 +10,7 @@ ghost use Rattle.parts.specs.Slots.{Turn};
 ghost use Rattle.parts.specs.Holding.{Laid};
 ghost use Rattle.straight.specs.Marks.{Unless};
 ghost use Rattle.straight.specs.Taking.{Takes};
-ghost use Rattle.straight.specs.Usual.{TellsTo, effectNamed};
+ghost use Rattle.objects.specs.Telling.{TellsTo, effectNamed};
 ghost use Rattle.objects.specs.Gathering.{Names, Parts, Gathers};
 ghost use Rattle.objects.specs.Statements.{statements, Begun, WithSid, Slots, statementFrom, Sorted, Sorting};
 use crate::filling;

@@ -1,7 +1,6 @@
 pub mod Slots
 pub mod Walking
 pub mod WalkingOn
-pub mod Ordered
 pub mod Extends
 pub mod Holding
 pub mod Spoken

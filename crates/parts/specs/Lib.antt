@@ -4,4 +4,3 @@ pub mod Room
 pub mod Holding
 pub mod Requests
 pub mod Spoken
-pub mod Ordered

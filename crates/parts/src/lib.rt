@@ -2,6 +2,5 @@
 pub mod entries;
 pub mod holding;
 pub mod members;
-pub mod order;
 pub mod sole;
 pub mod words;

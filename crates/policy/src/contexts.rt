@@ -10,7 +10,6 @@ ghost use Rattle.held.specs.Held.{heldText, heldValue, heldList, heldContext};
 ghost use Rattle.parts.specs.Slots.{Placed};
 ghost use Rattle.parts.specs.Room.{Holdable, HoldableList, HoldableSlot};
 ghost use Rattle.parts.specs.Holding.{Holds, HoldsTo, GathersTo};
-ghost use Rattle.parts.specs.Ordered.{OrdersTo};
 ghost use Rattle.parts.specs.Requests.{Placing, typeOf, typedAs};
 use held::limits;
 use parts::holding;
@@ -19,8 +18,6 @@ use parts::holding::Held;
 use parts::holding::Listed;
 use parts::members;
 use parts::members::Layout;
-use parts::order;
-use parts::order::Ordered;
 use parts::sole;
 use parts::words;
 use parts::words::Typed;
@@ -28,7 +25,6 @@ use syntax::numbers;
 use syntax::numbers::Number;
 use text::walk;
 use text::walk::Element;
-use text::walk::Member;
 
 // The key name that stands at a place.
 fn hold_name(s: &[u8], v: usize, run: &mut [u32], at: usize) -> Ended
@@ -115,8 +111,8 @@ fn hold_typed(s: &[u8], v: usize, run: &mut [u32], at: usize, kind: u32) -> Held
     holding::past_of(hold_value(s, v, run, at, kind))
 }
 
-// A context entry whose members may stand in any order: its type, its key and its value.
-fn hold_any_context(s: &[u8], v: usize, run: &mut [u32], at: usize) -> Ended
+// A context entry: its type, its key and its value.
+fn hold_context(s: &[u8], v: usize, run: &mut [u32], at: usize) -> Ended
     requires { ⌜ Holdable (now s) v (now run) at 0 ⌝ }
     ensures { λ r. ⌜ ((t : Json) (e : ℕ) → Stands (now (s .entry)) t v e → HoldsTo heldContext (now (run .entry)) (now (run .exit)) at (contextOf t) e r) ⌝ }
 {
@@ -144,62 +140,6 @@ fn hold_any_context(s: &[u8], v: usize, run: &mut [u32], at: usize) -> Ended
     Ended::Past {
         past: past,
         end: end,
-    }
-}
-
-// A context entry whose members stand in the order of its layout, in one walk.
-fn hold_ordered_context(s: &[u8], v: usize, run: &mut [u32], at: usize) -> Ordered
-    requires { ⌜ Holdable (now s) v (now run) at 0 ⌝ }
-    ensures { λ r. ⌜ ((t : Json) (e : ℕ) → Stands (now (s .entry)) t v e → OrdersTo heldContext (now (run .entry)) (now (run .exit)) at (contextOf t) e r) ⌝ }
-{
-    if !holding::is_object(walk::kind_at(s, v)) {
-        return Ordered::Wrong;
-    }
-    let first = order::first_named(s, v, b"ContextKeyName");
-    if first == 0 {
-        return Ordered::Not;
-    }
-    let h = hold_name(s, first, run, at + 1);
-    let Ended::Past { past, end } = h else {
-        return Ordered::Wrong;
-    };
-    let second = order::next_named(s, end, b"ContextKeyType");
-    if second == 0 {
-        return Ordered::Not;
-    }
-    let t = words::type_at(s, second);
-    let Typed::Is { kind, end } = t else {
-        return Ordered::Wrong;
-    };
-    let third = order::next_named(s, end, b"ContextKeyValues");
-    if third == 0 {
-        return Ordered::Not;
-    }
-    run[at] = kind;
-    let g = hold_value(s, third, run, past, kind);
-    let Ended::Past { past, end } = g else {
-        return Ordered::Wrong;
-    };
-    let m = walk::next_member(s, end);
-    let Member::Past(e) = m else {
-        return Ordered::Not;
-    };
-    Ordered::Past { past: past, end: e }
-}
-
-// A context entry: in one walk if its members stand in order, else member by member.
-fn hold_context(s: &[u8], v: usize, run: &mut [u32], at: usize) -> Ended
-    requires { ⌜ Holdable (now s) v (now run) at 0 ⌝ }
-    ensures { λ r. ⌜ ((t : Json) (e : ℕ) → Stands (now (s .entry)) t v e → HoldsTo heldContext (now (run .entry)) (now (run .exit)) at (contextOf t) e r) ⌝ }
-{
-    let o = hold_ordered_context(s, v, run, at);
-    match o {
-        Ordered::Past { past, end } => Ended::Past {
-            past: past,
-            end: end,
-        },
-        Ordered::Wrong => Ended::Wrong,
-        Ordered::Not => hold_any_context(s, v, run, at),
     }
 }
 

@@ -86,7 +86,7 @@ pub fn read_policy(s: &[u8], run: &mut [u32]) -> Read
     if s.len() > limits::POLICY {
         return Read::Refused(Refusal::PolicyLength);
     }
-    let h = straight::policies::policy(s, run);
+    let h = objects::policies::policy(s, run);
     let Held::Past(n) = h else {
         return judged_policy(s, run);
     };
@@ -104,7 +104,7 @@ pub fn read_record(s: &[u8], run: &mut [u32]) -> Read
     if s.len() > limits::RECORD {
         return Read::Refused(Refusal::RecordLength);
     }
-    let h = straight::records::record(s, run);
+    let h = objects::records::record(s, run);
     let Held::Past(n) = h else {
         return judged_record(s, run);
     };

@@ -1,4 +1,4 @@
 -- What the contracts of `straight` cite.
 pub mod Marks
 pub mod Taking
-pub mod Usual
+pub mod Operators

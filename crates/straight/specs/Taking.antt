@@ -5,16 +5,13 @@
 --   TakesSeveral ..                    likewise several things, with their count
 --   TakesMember ..                     a member from the opening quote of its name on, read by f from its raw name
 --                                      and value
---   lastOf w x                         the members behind which an object ends: none, or one with the name w
---   TakesLast h f n w s run run′ i at r   likewise, behind a member that ends at i
 use mathlib.Core.Path.{_≡_}
 use mathlib.Core.List.{List}
 use Prim.Native.Nat.{ℕ, _+_, _≤_}
 use lib.ListN.{length}
 use Rattle.chars.specs.Base.{part}
-use Rattle.text.specs.Json.{Json, Members, no-members, named, depth, depthm, a-value, members, more, Reads}
+use Rattle.text.specs.Json.{Json, Members, named, depth, a-value, members, more, Reads}
 use Rattle.syntax.specs.Forms.{Reading}
-use Rattle.syntax.specs.Members.{Slot, none, many, one}
 use Rattle.parts.specs.Holding.{Extends, Laid, Gathered}
 use Rattle.parts.specs.declared.holding.Ended.{Ended}
 use Rattle.parts.specs.declared.holding.Ended.the-variants as N
@@ -62,23 +59,6 @@ abbrev pub TakesMember : {A : Type 0} → (A → List ℕ) → (List ℕ → Jso
     → ℕ → Ended → Type 0
 TakesMember h f n s run run′ i at (N.Past p e) = TakenMember h f n s run run′ i at p e
 TakesMember h f n s run run′ i at N.Wrong = length run′ ≡ length run
-
-abbrev pub lastOf : List ℕ → Slot → Members
-lastOf w none = no-members
-lastOf w many = no-members
-lastOf w (one t) = named w t no-members
-
-pub record TakenLast {A : Type 0} (h : A → List ℕ) (f : Slot → Reading A) (n : ℕ) (w s run run′ : List ℕ)
-    (i at p e : ℕ) : Type 0 where
-  pub last : Slot
-  pub reads : Reads s (more (lastOf w last)) i e
-  pub shallow : depthm (lastOf w last) ≤ n
-  pub laid : Laid h run run′ at (f last) p
-
-abbrev pub TakesLast : {A : Type 0} → (A → List ℕ) → (Slot → Reading A) → ℕ → List ℕ → List ℕ → List ℕ → List ℕ → ℕ
-    → ℕ → Ended → Type 0
-TakesLast h f n w s run run′ i at (N.Past p e) = TakenLast h f n w s run run′ i at p e
-TakesLast h f n w s run run′ i at N.Wrong = length run′ ≡ length run
 
 -- bytes that stand for themselves, put one by one
 pub record Puts (s run run′ : List ℕ) (at to n : ℕ) : Type 0 where

@@ -1,10 +1,10 @@
-// The rows of a condition judged and held in one walk: its operators in the order of their numbers.
+// The rows of a condition judged and held in one walk.
 ghost use Rattle.syntax.specs.PolicyLayout.{rowOf, rowsOf, conditionOf};
 ghost use Rattle.held.specs.Held.{heldRow};
 ghost use Rattle.parts.specs.Room.{Roomy};
 ghost use Rattle.parts.specs.Spoken.{operatorIs};
 ghost use Rattle.straight.specs.Taking.{TakesSeveral, TakesMember};
-ghost use Rattle.straight.specs.Usual.{NamesOperator};
+ghost use Rattle.straight.specs.Operators.{NamesOperator};
 use crate::entries;
 use crate::marks;
 use crate::strings;
@@ -118,7 +118,7 @@ fn operator_at(s: &[u8], i: usize) -> Operated
     Operated::Wrong
 }
 
-// The rows of a condition. Operators come in the order of their numbers, so that none comes twice.
+// The rows of a condition; no operator comes twice.
 pub fn condition(s: &[u8], v: usize, run: &mut [u32], at: usize) -> Listed
     requires { ⌜ Roomy (now run) at 0 ⌝ }
     ensures { λ r. ⌜ TakesSeveral heldRow conditionOf 3 (now (s .entry)) (now (run .entry)) (now (run .exit)) v at r ⌝ }
@@ -129,16 +129,17 @@ pub fn condition(s: &[u8], v: usize, run: &mut [u32], at: usize) -> Listed
     }
     let mut p = at;
     let mut n = 0usize;
-    let mut last = 0u32;
+    let mut seen = [0u32; 4];
     loop {
         let w = operator_at(s, i);
         let Operated::By { operator, value } = w else {
             return Listed::Wrong;
         };
-        let number = words::operator_number(operator);
-        if number <= last {
+        let k = words::operator_number(operator) as usize;
+        if seen[k] != 0 {
             return Listed::Wrong;
         }
+        seen[k] = 1;
         let g = rows(s, value, run, p, operator);
         let Listed::Several { past, end, count } = g else {
             return Listed::Wrong;
@@ -146,7 +147,6 @@ pub fn condition(s: &[u8], v: usize, run: &mut [u32], at: usize) -> Listed
         if MOST - n < count {
             return Listed::Wrong;
         }
-        last = number;
         p = past;
         n = n + count;
         let c = marks::parted(s, end, 44);

@@ -21,7 +21,7 @@ use Rattle.parts.proofs.Laws.Extends.{extends-none, extends-front, extends-kept
 use Rattle.parts.proofs.Laws.Fits.{then-inv}
 use Rattle.parts.proofs.Laws.Formed.{then-read}
 use Rattle.straight.specs.Taking.{Taken, Takes}
-use Rattle.straight.specs.Usual.{Told, TellsTo}
+use Rattle.objects.specs.Telling.{Told, TellsTo}
 use Rattle.objects.specs.Spans.{fromOf, toOf, behind, piece, Span}
 use Rattle.objects.specs.Gathering.{How, laid, told, Kinded, Laying, Found, SlotFound, PartHeld, Parts, laidAs, toldAs}
 use Rattle.objects.specs.Filling.{numbers, Ready, noted, Filled, there, absent, no-room}

@@ -22,7 +22,7 @@ use Rattle.parts.specs.declared.words.Typed.{Typed}
 use Rattle.straight.specs.Marks.{Opened}
 use Rattle.straight.specs.Taking.{Taken, Takes}
 use Rattle.straight.proofs.Laws.Reads.{object-some}
-use Rattle.straight.specs.Usual.{TellsTo, effectNamed}
+use Rattle.objects.specs.Telling.{TellsTo, effectNamed}
 use Rattle.straight.proofs.Laws.AsTexts.{texts-laid}
 use Rattle.straight.proofs.Laws.Taking.{retaken}
 use Rattle.objects.specs.Gathering.{Parts, laidAs, toldAs}

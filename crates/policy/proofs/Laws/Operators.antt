@@ -36,7 +36,8 @@ use Rattle.policy.proofs.Laws.Collecting.{collecting-past}
 use Rattle.policy.proofs.Laws.Collecting.{next-cost, next-members, next-holdable}
 use Rattle.policy.proofs.Laws.Collecting.{next-continuing, next-wrong, collecting-more, collecting-less}
 use Rattle.policy.proofs.Laws.Groups.{Many, Inside, many-rows, rows-inside, heldGroup, groups-held, rows-snoc}
-use Rattle.policy.proofs.Laws.Groups.{operators-is, Seen, seen-none, seen-more}
+use Rattle.straight.proofs.Laws.Seen.{Seen, seen-none, seen-more}
+use Rattle.policy.proofs.Laws.Groups.{operators-is}
 
 pub record Operators (s : List ℕ) (v : ℕ) (run₀ : List ℕ) (at : ℕ) (run marks : List ℕ) (m : Member) (p n : ℕ)
     : Type 0 where

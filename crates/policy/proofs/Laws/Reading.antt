@@ -33,7 +33,7 @@ use Rattle.policy.specs.declared.reading.Read.{Read}
 use Rattle.policy.specs.declared.reading.Read.the-variants as R
 use Rattle.parts.specs.declared.holding.Held.{Held}
 use Rattle.parts.specs.declared.holding.Held.the-variants as H
-use Rattle.straight.specs.Usual.{TakenText, TakesText}
+use Rattle.objects.specs.Telling.{TakenText, TakesText}
 use Rattle.parts.proofs.Laws.Room.{cost-within}
 use Rattle.parts.proofs.Laws.Extends.{extends-within, extends-lies}
 

@@ -1,18 +1,18 @@
--- Conditions in one walk: an operator with its rows, and the operators in rising order.
---   Rising ..   operators passed so far: their rows counted, their numbers up to the last one's
+-- Conditions in one walk: an operator with its rows, and the operators one behind the other, none of them twice.
+--   Rising ..   operators passed so far: their rows counted, the operators marked
 use mathlib.Core.Path.{_≡_, refl, sym, ap, _∙_, subst}
 use mathlib.Core.Bool.{Bool, true, false}
 use mathlib.Core.List.{List, [], _∷_, _++_}
 use Prim.Native.Nat.{ℕ, _+_, _-_, _≤_, _<_}
 use native.Mathlib.Omega.{arith}
-use lib.ListN.{length, length-append}
+use lib.ListN.{length, getD, set, replicate, length-append}
 use Rattle.chars.specs.Decoding.{sequenceOf, readOf, unitsBehind, meaning, textOf, equal, sameText}
 use Rattle.text.specs.Json.{object, Members, no-members, named}
 use Rattle.syntax.specs.Policy.{Operator, StringEquals, StringLike, NumericLessThanEquals}
-use Rattle.syntax.specs.Forms.{read, either}
+use Rattle.syntax.specs.Forms.{read}
 use Rattle.syntax.specs.Members.{only, hasLike, differ}
 use Rattle.syntax.specs.Members as S
-use Rattle.syntax.specs.PolicyLayout.{rowsOf, operatorOf, sameOperator, Group, sameGroup, groupOf, rowsIn, operatorsIn}
+use Rattle.syntax.specs.PolicyLayout.{rowsOf, operatorOf, Group, sameGroup, groupOf, rowsIn, operatorsIn}
 use Rattle.syntax.specs.PolicyLayout.{conditionOf}
 use Rattle.held.specs.Held.{heldEach, heldRow, operatorNumber}
 use Rattle.parts.specs.Room.{Roomy}
@@ -26,9 +26,10 @@ use Rattle.straight.specs.declared.rows.Operated.{Operated}
 use Rattle.straight.specs.declared.rows.Operated.the-variants as O
 use Rattle.straight.specs.Marks.{Opened, Closed, Parted, Named}
 use Rattle.straight.specs.Taking.{TakenSeveral, TakenMember}
-use Rattle.straight.specs.Usual.{wordOf, NamesOperator}
+use Rattle.straight.specs.Operators.{wordOf, NamesOperator}
 use Rattle.straight.proofs.Laws.Reads.{reads-inside, reads-later, named-later, member-is}
 use Rattle.straight.proofs.Laws.Going.{Passed, going-end, going-size, going-less, going-extends}
+use Rattle.straight.proofs.Laws.Seen.{Seen, seen-none, seen-more}
 use Rattle.straight.proofs.Laws.Lists.{membersOf, member-passed}
 use Rattle.straight.proofs.Laws.Differing.{Kind, Differing, grown, differing-start, differing-roomy}
 use Rattle.straight.proofs.Laws.Differing.{differing-still, differing-more}
@@ -86,40 +87,6 @@ rows-many (x ∷ gs) g =
       rows-many gs g,
     )
 
--- operators of different numbers are different
-operators-differ : (o p : Operator) → operatorNumber p < operatorNumber o → sameOperator o p ≡ false
-operators-differ StringEquals StringEquals h = absurd (omega arith)
-operators-differ StringEquals StringLike h = refl
-operators-differ StringEquals NumericLessThanEquals h = refl
-operators-differ StringLike StringEquals h = refl
-operators-differ StringLike StringLike h = absurd (omega arith)
-operators-differ StringLike NumericLessThanEquals h = refl
-operators-differ NumericLessThanEquals StringEquals h = refl
-operators-differ NumericLessThanEquals StringLike h = refl
-operators-differ NumericLessThanEquals NumericLessThanEquals h = absurd (omega arith)
-
--- an operator of a higher number is new
-pub record Below (gs : List Group) (last : ℕ) : Type 0 where
-  pub new : (g : Group) → last < operatorNumber (g .operator) → hasLike sameGroup g gs ≡ false
-
--- a group like none of several, nor like one more
-like-last : (x g : Group) (gs : List Group) → hasLike sameGroup x gs ≡ false → sameGroup x g ≡ false
-    → hasLike sameGroup x (gs ++ (g ∷ [])) ≡ false
-unfolding hasLike
-like-last x g [] h e = rw e
-like-last x g (y ∷ gs) h e = by (sameGroup x y) h (λ q. like-last x g gs q e)
-  where
-    by : (t : Bool) {u w : Bool} → either t u ≡ false → (u ≡ false → w ≡ false) → either t w ≡ false
-    by true q f = q
-    by false q f = f q
-
-below-more : (gs : List Group) (g : Group) {last : ℕ} → Below gs last → last < operatorNumber (g .operator)
-    → Below (gs ++ (g ∷ [])) (operatorNumber (g .operator))
-below-more gs g b up =
-    record {
-      new = λ x h. like-last x g gs (b .new x (omega arith)) (operators-differ (x .operator) (g .operator) h);
-    }
-
 condition-said : (us : Members) (gs : List Group) → (us ≡ no-members → ⊥) → S.members groupOf us ≡ read gs
     → differ sameGroup gs ≡ true → conditionOf (object us) ≡ read (rowsIn gs)
 unfolding conditionOf operatorsIn
@@ -129,25 +96,25 @@ condition-said (named w t ms) gs n q y = then-read _ q ∙ ap (λ (b : Bool). on
 abbrev pub operators : Kind Members Group
 operators = record { frame = membersOf heldGroup groupOf 2; alike = sameGroup; symmetric = sameGroup-symmetric }
 
-pub record Rising (s : List ℕ) (v : ℕ) (run₀ : List ℕ) (at i : ℕ) (run : List ℕ) (p n last : ℕ) : Type 0 where
+pub record Rising (s : List ℕ) (v : ℕ) (run₀ : List ℕ) (at i : ℕ) (run : List ℕ) (p n : ℕ) (marks : List ℕ) : Type 0 where
   pub many : ℕ
   pub groups : Differing operators s v run₀ at i run p many
   pub count : n ≡ length (rowsIn (groups .things))
   pub few : n ≤ 16384
-  pub below : Below (groups .things) last
+  pub seen : Seen marks (groups .things)
 
-pub rising-start : {s run : List ℕ} {v at i : ℕ} → Roomy run at 0 → Opened s 123 v i → Rising s v run at i run at 0 0
-unfolding rowsIn hasLike differing-start
+pub rising-start : {s run : List ℕ} {v at i : ℕ} → Roomy run at 0 → Opened s 123 v i → Rising s v run at i run at 0 (replicate 4 0)
+unfolding rowsIn differing-start
 rising-start {s} r o =
     record {
       many = 0;
       groups = differing-start operators r o;
       count = refl;
       few = omega arith;
-      below = record { new = λ g h. refl };
+      seen = seen-none;
     }
 
-module _ {s run₀ run : List ℕ} {v at i p n last : ℕ} (g : Rising s v run₀ at i run p n last) where
+module _ {s run₀ run : List ℕ} {v at i p n : ℕ} {marks : List ℕ} (g : Rising s v run₀ at i run p n marks) where
   pub rising-roomy : Roomy run p 0
   rising-roomy = differing-roomy operators (g .groups)
 
@@ -166,12 +133,12 @@ module _ {s run₀ run : List ℕ} {v at i p n last : ℕ} (g : Rising s v run�
     unfolding group group-taken member-passed
     rising-count = omega (arith, g .count, t .gathered .count, rows-many (g .groups .things) (group .thing))
 
-    module _ {number : ℕ} (is : number ≡ operatorNumber o) (up : last < number) where
+    module _ {number : ℕ} (is : number ≡ operatorNumber o) (clear : getD marks number 0 ≡ 0) where
       new-operator : hasLike sameGroup (group .thing) (g .groups .things) ≡ false
       unfolding group group-taken member-passed
-      new-operator = g .below .new (group .thing) (omega arith)
+      new-operator = g .seen .clear (group .thing) (ap (λ (j : ℕ). getD marks j 0) (sym is) ∙ clear)
 
-      pub rising-more : {c : ℕ} → n + k ≤ 16384 → Parted s 44 e c → Rising s v run₀ at c run₁ q (n + k) number
+      pub rising-more : {c : ℕ} → n + k ≤ 16384 → Parted s 44 e c → Rising s v run₀ at c run₁ q (n + k) (set marks number 1)
       unfolding group group-taken member-passed differing-more
       rising-more few c =
           record {
@@ -179,8 +146,7 @@ module _ {s run₀ run : List ℕ} {v at i p n last : ℕ} (g : Rising s v run�
             groups = differing-more operators (g .groups) group new-operator c;
             count = rising-count;
             few = few;
-            below = subst (Below (grown operators (g .groups) group))
-                (sym is) (below-more (g .groups .things) (group .thing) (g .below) (omega arith));
+            seen = seen-more (group .thing) number is (g .seen);
           }
 
       pub rising-end : {z : ℕ} → Closed s 125 e z → TakenSeveral heldRow conditionOf 3 s run₀ run₁ v at q z (n + k)

@@ -1,12 +1,12 @@
 -- Answers that are known: what a walk promises where it went on, and where it gave up.
 --   extends-roomy, set-roomy, run-roomy   room in the run
---   retaken, text-taken                   the same value held in another way; a value that is the whole text
+--   retaken                               the same value held in another way
 use mathlib.Core.Path.{_≡_, subst}
 use mathlib.Core.List.{List}
 use Prim.Native.Nat.{ℕ, _≤_}
 use native.Mathlib.Omega.{arith}
 use lib.ListN.{length, set, length-set}
-use Rattle.text.specs.Json.{Json, levels, Space}
+use Rattle.text.specs.Json.{Json}
 use Rattle.syntax.specs.Limits.{runNumbers}
 use Rattle.syntax.specs.Forms.{Reading}
 use Rattle.parts.specs.Room.{Roomy}
@@ -17,7 +17,6 @@ use Rattle.parts.specs.declared.holding.Listed.{Listed}
 use Rattle.parts.specs.declared.holding.Listed.the-variants as L
 use Rattle.parts.proofs.Laws.Extends.{extends-within}
 use Rattle.straight.specs.Taking.{Taken, Takes, TakenSeveral, TakesSeveral, TakenMember, TakesMember}
-use Rattle.straight.specs.Usual.{TakenText}
 
 module _ {A : Type 0} (h : A → List ℕ) (n : ℕ) (s run run′ : List ℕ) (v at : ℕ) where
   module _ (f : Json → Reading A) where
@@ -68,24 +67,3 @@ pub retaken :
     {s run run′ run₁ run₂ : List ℕ} {v at p p′ e : ℕ} (t : Taken h f n s run run′ v at p e)
     → Laid k run₁ run₂ at (g (t .tree)) p′ → Taken k g n s run₁ run₂ v at p′ e
 retaken t d = record { tree = t .tree; reads = t .reads; shallow = t .shallow; laid = d }
-
--- a value between white space, of few enough levels
-pub text-taken :
-    {A : Type 0} {h : A → List ℕ} {f : Json → Reading A} {n : ℕ} {s run run′ : List ℕ} {v p e z : ℕ}
-    → n ≤ levels → Space s 0 v → Taken h f n s run run′ v 0 p e → Space s e z → z ≡ length s
-    → TakenText h f s run run′ p
-text-taken {s = s} {v = v} {e = e} few before t after all =
-    record {
-      text = record {
-        tree = t .tree;
-        says = record {
-          from = v;
-          past = e;
-          before = before;
-          reads = t .reads;
-          after = subst (Space s e) all after;
-        };
-        shallow = omega (arith, t .shallow);
-      };
-      laid = t .laid;
-    }

@@ -6,7 +6,6 @@ use Rattle.objects.proofs.Laws.Policies.{lone-laid}
 use borrow.Author.Needs.{needs}
 use Rattle.objects.proofs.policies.lone.Statement.{statement}
 use Rattle.objects.proofs.policies.lone.Tie as tie
-use Rattle.objects.proofs.statements.statement.Reads as statement-reads
 
 statement-requires : tie.Need-statement-requires
 statement-requires c κs = search needs

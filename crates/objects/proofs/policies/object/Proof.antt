@@ -3,9 +3,6 @@ use Rattle.straight.specs.Marks.{allBare}
 use borrow.Author.Needs.{needs}
 use Rattle.objects.proofs.policies.object.Statement.{statement}
 use Rattle.objects.proofs.policies.object.Tie as tie
-use Rattle.objects.proofs.policies.statement_first.Reads as statement-first-reads
-use Rattle.objects.proofs.policies.version_first.Reads as version-first-reads
-use Rattle.straight.proofs.marks.first.Reads as first-reads
 
 slice-aggregate-first : tie.Need-slice-aggregate-first
 slice-aggregate-first c = search needs

@@ -4,7 +4,8 @@ use Rattle.syntax.specs.PolicyLayout.{policyOf}
 use Rattle.held.specs.Held.{held}
 use Rattle.straight.proofs.Laws.Marks.{space-reads}
 use Rattle.straight.proofs.Laws.Reads.{reads-inside}
-use Rattle.straight.proofs.Laws.Taking.{takes-past, text-taken}
+use Rattle.straight.proofs.Laws.Taking.{takes-past}
+use Rattle.objects.proofs.Laws.Words.{text-taken}
 use borrow.Author.Needs.{needs}
 use Rattle.objects.proofs.policies.policy.Statement.{statement}
 use Rattle.objects.proofs.policies.policy.Tie as tie

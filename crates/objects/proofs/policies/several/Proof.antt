@@ -6,8 +6,6 @@ use Rattle.objects.proofs.Laws.Policies.{policyFrom, listed-laid}
 use borrow.Author.Needs.{needs}
 use Rattle.objects.proofs.policies.several.Statement.{statement}
 use Rattle.objects.proofs.policies.several.Tie as tie
-use Rattle.objects.proofs.policies.listed.Reads as listed-reads
-use Rattle.objects.proofs.policies.lone.Reads as lone-reads
 
 returns : tie.Need-returns
 returns c = search needs

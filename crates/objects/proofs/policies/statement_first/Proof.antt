@@ -8,11 +8,6 @@ use Rattle.objects.proofs.Laws.Policies.{policyFrom, statement-first-ta
 use borrow.Author.Needs.{needs}
 use Rattle.objects.proofs.policies.statement_first.Statement.{statement}
 use Rattle.objects.proofs.policies.statement_first.Tie as tie
-use Rattle.objects.proofs.policies.several.Reads as several-reads
-use Rattle.straight.proofs.marks.closed.Reads as closed-reads
-use Rattle.straight.proofs.marks.first.Reads as first-reads
-use Rattle.straight.proofs.marks.next.Reads as next-reads
-use Rattle.straight.proofs.marks.quote.Reads as quote-reads
 
 slice-aggregate-first : tie.Need-slice-aggregate-first
 slice-aggregate-first c = search needs

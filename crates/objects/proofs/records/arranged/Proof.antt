@@ -5,9 +5,6 @@ use Rattle.objects.proofs.Laws.Records.{star-high, arranged-spanned, ar
 use borrow.Author.Needs.{needs}
 use Rattle.objects.proofs.records.arranged.Statement.{statement}
 use Rattle.objects.proofs.records.arranged.Tie as tie
-use Rattle.objects.proofs.filling.with_star.Reads as with-star-reads
-use Rattle.objects.proofs.filling.with_zero.Reads as with-zero-reads
-use Rattle.objects.proofs.settling.settle.Reads as settle-reads
 
 array-read-if1 : tie.Need-array-read-if1
 array-read-if1 c = search needs
@@ -30,9 +27,12 @@ returns-2 c = λ x w. unless-none
 with-zero-requires : tie.Need-with-zero-requires
 with-zero-requires c κs =
     let at-star = c .before .before .before .before in
-    let start = at-star .before .before .before .before in
-    (omega arith, omega arith, star-high (start .pre .sorted) (at-star .before .before .if1 .left)
-    (at-star .with-star .ensures) (c .before .if2 .left))
+    let start = at-star .before .before .before .before in (
+      omega arith,
+      omega arith,
+      star-high (start .pre .sorted) (at-star .before .before .if1 .left)
+          (at-star .with-star .ensures) (c .before .if2 .left),
+    )
 
 array-read-if3 : tie.Need-array-read-if3
 array-read-if3 c = search needs

@@ -11,10 +11,6 @@ use Rattle.objects.proofs.Laws.Records.{records-proper}
 use borrow.Author.Needs.{needs}
 use Rattle.objects.proofs.records.gathered.Statement.{statement}
 use Rattle.objects.proofs.records.gathered.Tie as tie
-use Rattle.objects.proofs.records.part.Reads as part-reads
-use Rattle.objects.proofs.records.which.Reads as which-reads
-use Rattle.straight.proofs.marks.closed.Reads as closed-reads
-use Rattle.straight.proofs.marks.parted.Reads as parted-reads
 
 abbrev Inv-loop : tie.InvT-loop
 Inv-loop s first run₀ at spans₀ i₀ p₀ run spans i p = Gathering records s run₀ run first at i p spans

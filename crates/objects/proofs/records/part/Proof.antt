@@ -4,10 +4,6 @@ use Rattle.objects.proofs.Laws.Records.{last-turn, part-is, action-part
 use borrow.Author.Needs.{needs}
 use Rattle.objects.proofs.records.part.Statement.{statement}
 use Rattle.objects.proofs.records.part.Tie as tie
-use Rattle.objects.proofs.members.laid.Reads as laid-reads
-use Rattle.objects.proofs.records.action.Reads as action-reads
-use Rattle.objects.proofs.records.resource.Reads as resource-reads
-use Rattle.straight.proofs.contexts.contexts.Reads as contexts-reads
 
 action-requires : tie.Need-action-requires
 action-requires c κs = search needs

@@ -4,7 +4,8 @@ use Rattle.syntax.specs.RecordLayout.{requestOf}
 use Rattle.held.specs.Held.{heldRequest}
 use Rattle.straight.proofs.Laws.Marks.{space-reads}
 use Rattle.straight.proofs.Laws.Reads.{reads-inside}
-use Rattle.straight.proofs.Laws.Taking.{takes-past, text-taken}
+use Rattle.straight.proofs.Laws.Taking.{takes-past}
+use Rattle.objects.proofs.Laws.Words.{text-taken}
 use borrow.Author.Needs.{needs}
 use Rattle.objects.proofs.records.record.Statement.{statement}
 use Rattle.objects.proofs.records.record.Tie as tie

@@ -5,9 +5,6 @@ use Rattle.objects.proofs.Laws.Records.{request-sorted, request-taken}
 use borrow.Author.Needs.{needs}
 use Rattle.objects.proofs.records.request.Statement.{statement}
 use Rattle.objects.proofs.records.request.Tie as tie
-use Rattle.objects.proofs.records.arranged.Reads as arranged-reads
-use Rattle.objects.proofs.records.gathered.Reads as gathered-reads
-use Rattle.straight.proofs.marks.opened.Reads as opened-reads
 
 opened-requires : tie.Need-opened-requires
 opened-requires c κs = search needs

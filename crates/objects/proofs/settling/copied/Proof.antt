@@ -6,7 +6,6 @@ use Rattle.objects.proofs.Laws.Settling.{copying-more, copying-end, cop
 use borrow.Author.Needs.{needs}
 use Rattle.objects.proofs.settling.copied.Statement.{statement}
 use Rattle.objects.proofs.settling.copied.Tie as tie
-use Rattle.objects.proofs.settling.moved.Reads as moved-reads
 
 abbrev Inv-loop : tie.InvT-loop
 Inv-loop run₀ first last spans n₀ p₀ run n p = (n ≤ last) × (Copying run₀ run spans first n p)

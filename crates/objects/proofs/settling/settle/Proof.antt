@@ -4,9 +4,6 @@ use Rattle.objects.proofs.Laws.Settling.{settled-already, settled-movab
 use borrow.Author.Needs.{needs}
 use Rattle.objects.proofs.settling.settle.Statement.{statement}
 use Rattle.objects.proofs.settling.settle.Tie as tie
-use Rattle.objects.proofs.settling.copied.Reads as copied-reads
-use Rattle.objects.proofs.settling.moved.Reads as moved-reads
-use Rattle.objects.proofs.settling.settled.Reads as settled-reads
 
 settled-requires : tie.Need-settled-requires
 settled-requires c κs = search needs

@@ -7,8 +7,6 @@ use Rattle.objects.proofs.Laws.Statements.{arranged-spanned, effect-sma
 use borrow.Author.Needs.{needs}
 use Rattle.objects.proofs.statements.arranged.Statement.{statement}
 use Rattle.objects.proofs.statements.arranged.Tie as tie
-use Rattle.objects.proofs.filling.with_zero.Reads as with-zero-reads
-use Rattle.objects.proofs.settling.settle.Reads as settle-reads
 
 array-read-if1 : tie.Need-array-read-if1
 array-read-if1 c = search needs

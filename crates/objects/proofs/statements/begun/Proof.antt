@@ -5,7 +5,6 @@ use Rattle.objects.specs.Statements.{labelled, bare}
 use borrow.Author.Needs.{needs}
 use Rattle.objects.proofs.statements.begun.Statement.{statement}
 use Rattle.objects.proofs.statements.begun.Tie as tie
-use Rattle.straight.proofs.marks.named.Reads as named-reads
 
 slice-aggregate-named : tie.Need-slice-aggregate-named
 slice-aggregate-named c = search needs

@@ -8,7 +8,6 @@ use Rattle.straight.proofs.Laws.Laying.{several-taken}
 use borrow.Author.Needs.{needs}
 use Rattle.objects.proofs.statements.condition.Statement.{statement}
 use Rattle.objects.proofs.statements.condition.Tie as tie
-use Rattle.straight.proofs.rows.condition.Reads as condition-reads
 
 returns : tie.Need-returns
 returns c = search needs

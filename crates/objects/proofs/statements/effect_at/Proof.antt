@@ -2,7 +2,7 @@
 use native.Mathlib.Omega.{arith}
 use Rattle.syntax.specs.Words.{allowWord, denyWord}
 use Rattle.straight.specs.Marks.{allBare}
-use Rattle.straight.proofs.Laws.Words.{quoted-told, allow-named, deny-named}
+use Rattle.objects.proofs.Laws.Words.{quoted-told, allow-named, deny-named}
 use borrow.Author.Needs.{needs}
 use Rattle.objects.proofs.statements.effect_at.Statement.{statement}
 use Rattle.objects.proofs.statements.effect_at.Tie as tie

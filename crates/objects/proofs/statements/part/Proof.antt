@@ -5,12 +5,6 @@ use Rattle.objects.proofs.Laws.Statements.{last-turn, effect-part}
 use borrow.Author.Needs.{needs}
 use Rattle.objects.proofs.statements.part.Statement.{statement}
 use Rattle.objects.proofs.statements.part.Tie as tie
-use Rattle.objects.proofs.members.laid.Reads as laid-reads
-use Rattle.objects.proofs.members.told.Reads as told-reads
-use Rattle.objects.proofs.statements.condition.Reads as condition-reads
-use Rattle.objects.proofs.statements.effect_at.Reads as effect-at-reads
-use Rattle.straight.proofs.entries.entries.Reads as entries-reads
-use Rattle.straight.proofs.entries.sid.Reads as sid-reads
 
 sid-requires : tie.Need-sid-requires
 sid-requires c κs = search needs

@@ -7,11 +7,6 @@ use Rattle.objects.proofs.Laws.Statements.{begun-kept, begun-low, state
 use borrow.Author.Needs.{needs}
 use Rattle.objects.proofs.statements.statement.Statement.{statement}
 use Rattle.objects.proofs.statements.statement.Tie as tie
-use Rattle.objects.proofs.statements.arranged.Reads as arranged-reads
-use Rattle.objects.proofs.statements.begun.Reads as begun-reads
-use Rattle.objects.proofs.statements.gathered.Reads as gathered-reads
-use Rattle.objects.proofs.statements.with_sid.Reads as with-sid-reads
-use Rattle.straight.proofs.marks.opened.Reads as opened-reads
 
 sub-if1 : tie.Need-sub-if1
 sub-if1 c = search needs

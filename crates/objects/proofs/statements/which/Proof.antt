@@ -6,8 +6,6 @@ use Rattle.objects.specs.Statements.{statements}
 use borrow.Author.Needs.{needs}
 use Rattle.objects.proofs.statements.which.Statement.{statement}
 use Rattle.objects.proofs.statements.which.Tie as tie
-use Rattle.objects.proofs.members.is.Reads as is-reads
-use Rattle.straight.proofs.marks.named.Reads as named-reads
 
 sub-if1 : tie.Need-sub-if1
 sub-if1 c = search needs

@@ -3,7 +3,7 @@ use mathlib.Core.Path.{sym, _∙_}
 use native.Mathlib.Omega.{arith}
 use Rattle.syntax.specs.PolicyLayout.{policyOf}
 use Rattle.held.specs.Held.{held}
-use Rattle.straight.specs.Usual.{TakenText}
+use Rattle.objects.specs.Telling.{TakenText}
 use Rattle.policy.specs.Reading.{policyRules}
 use Rattle.policy.proofs.Laws.Reading.{says-long, text-past, text-wrong, lent-again, held-lies, policy-over}
 use Rattle.policy.proofs.Laws.Reading.{policy-known}

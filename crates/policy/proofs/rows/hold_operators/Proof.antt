@@ -7,7 +7,7 @@ use Rattle.held.specs.Held.{heldRow, operatorNumber}
 use Rattle.parts.specs.Spoken.{operatorIs}
 use Rattle.parts.proofs.Laws.Formed.{lists-several, lists-wrong}
 use Rattle.parts.proofs.Laws.Walking.{leftOf}
-use Rattle.policy.proofs.Laws.Groups.{number-small}
+use Rattle.straight.proofs.Laws.Seen.{number-small}
 use Rattle.policy.proofs.Laws.Operators.{Operators, operators-start, operators-end, operators-past, group-unknown, known}
 use Rattle.policy.proofs.Laws.Operators.{group-left, here, here-holdable, here-continuing}
 use Rattle.policy.proofs.Laws.Operators.{here-less, operators-wrong, operators-twice, operators-size}

@@ -1,4 +1,4 @@
--- Each turn passes one operator and its rows; its number is above those before it, so that none comes twice.
+-- Each turn passes one operator and its rows; it is marked, so that none comes twice.
 use mathlib.Core.Path.{_≡_, _∙_}
 use Prim.Native.Nat.{_-_}
 use native.Mathlib.Omega.{arith}
@@ -9,20 +9,21 @@ use Rattle.held.specs.Held.{heldRow}
 use Rattle.parts.specs.Spoken.{operatorIs}
 use Rattle.straight.specs.Marks.{Named}
 use Rattle.straight.specs.Taking.{TakenSeveral}
-use Rattle.straight.specs.Usual.{wordOf}
+use Rattle.straight.specs.Operators.{wordOf}
 use Rattle.straight.proofs.Laws.Reads.{reads-inside}
 use Rattle.straight.proofs.Laws.Taking.{several-past}
 use Rattle.straight.proofs.Laws.Conditions.{names-by, Rising, rising-start, rising-roomy, rising-size}
 use Rattle.straight.proofs.Laws.Conditions.{rising-less, rising-more, rising-end}
+use Rattle.straight.proofs.Laws.Seen.{number-small}
 use borrow.Author.Needs.{needs}
 use Rattle.straight.proofs.rows.condition.Statement.{statement}
 use Rattle.straight.proofs.rows.condition.Tie as tie
 
 abbrev Inv-loop : tie.InvT-loop
-Inv-loop s v run₀ at i₀ p₀ n₀ last₀ run i p n last = Rising s v run₀ at i run p n last
+Inv-loop s v run₀ at i₀ p₀ n₀ seen₀ run i p n seen = Rising s v run₀ at i run p n seen
 
 abbrev μ-loop : tie.MeasureT-loop
-μ-loop s v run₀ at i₀ p₀ n₀ last₀ run i p n last = length s - i
+μ-loop s v run₀ at i₀ p₀ n₀ seen₀ run i p n seen = length s - i
 
 -- the operator that was found, the turn's state before it, and where the function starts
 abbrev found : tie.After-rows Inv-loop μ-loop → tie.After-w Inv-loop μ-loop
@@ -45,7 +46,7 @@ operator c = operatorIs (found (call c) .w .given .0 .0)
 abbrev passed : (c : tie.After-g Inv-loop μ-loop)
     → Rising (start (call c) .args .s .now) (start (call c) .args .v) (start (call c) .args .run .now)
     (start (call c) .args .at) (turn (call c) .loop .i) (turn (call c) .loop .run) (turn (call c) .loop .p)
-    (turn (call c) .loop .n) (turn (call c) .loop .last)
+    (turn (call c) .loop .n) (turn (call c) .loop .seen)
 passed c = turn (call c) .loop .inv
 
 named : (c : tie.After-g Inv-loop μ-loop)
@@ -97,11 +98,44 @@ returns-2 c = c .before .before .before .loop .inv .groups .going .extends .size
 operator-number-requires : tie.Need-operator-number-requires Inv-loop μ-loop
 operator-number-requires c κs = search needs
 
+cast-k : tie.Need-cast-k Inv-loop μ-loop
+cast-k c =
+    let small = number-small (operatorIs (c .before .before .w .given .0 .0)) in
+    let is = c .operator-number .ensures in
+    search needs
+
+mul-if2 : tie.Need-mul-if2 Inv-loop μ-loop
+mul-if2 c =
+    let small = number-small (operatorIs (c .before .before .w .given .0 .0)) in
+    let is = c .operator-number .ensures in
+    search needs
+
+array-read-if2 : tie.Need-array-read-if2 Inv-loop μ-loop
+array-read-if2 c =
+    let small = number-small (operatorIs (c .before .before .w .given .0 .0)) in
+    omega (arith, small, c .operator-number .ensures, c .before .before .before .before .before .loop .inv .seen .size)
+
 same-length-2 : tie.Need-same-length-2 Inv-loop μ-loop
 same-length-2 c = c .before .before .before .before .before .before .loop .inv .groups .going .extends .size
 
 returns-3 : tie.Need-returns-3 Inv-loop μ-loop
 returns-3 c = c .before .before .before .before .before .before .loop .inv .groups .going .extends .size
+
+mul-seen : tie.Need-mul-seen Inv-loop μ-loop
+mul-seen c =
+    let small = number-small (operatorIs (c .before .before .before .w .given .0 .0)) in
+    let is = c .before .operator-number .ensures in
+    search needs
+
+array-write-seen : tie.Need-array-write-seen Inv-loop μ-loop
+array-write-seen c =
+    let small = number-small (operatorIs (c .before .before .before .w .given .0 .0)) in
+    omega (
+      arith,
+      small,
+      c .before .operator-number .ensures,
+      c .before .before .before .before .before .before .loop .inv .seen .size,
+    )
 
 rows-requires : tie.Need-rows-requires Inv-loop μ-loop
 rows-requires c κs = rising-roomy (c .before .before .before .before .before .before .before .loop .inv)
@@ -154,7 +188,7 @@ returns-7 c =
     let at-g = c .before .before .before .before .before .before in
     let d = call at-g in
     rising-end (passed at-g) (operator at-g) (named at-g) (held at-g)
-    (d .before .before .before .operator-number .ensures) (omega (arith, d .before .before .if2 .left))
+    (d .before .before .before .operator-number .ensures) (d .before .before .if2 .left)
     (c .before .closed .ensures .found (c .if5 .left))
 
 loop-less : tie.Need-loop-less Inv-loop μ-loop
@@ -168,7 +202,7 @@ loop-again c =
     let at-g = c .before .before .before .before in
     let d = call at-g in
     rising-more (passed at-g) (operator at-g) (named at-g) (held at-g)
-    (d .before .before .before .operator-number .ensures) (omega (arith, d .before .before .if2 .left))
+    (d .before .before .before .operator-number .ensures) (d .before .before .if2 .left)
     (omega (arith, passed at-g .few, c .before .before .if3 .left)) (c .before .parted .ensures .found (c .if4 .left))
 
 pub condition-spec : {M : Type 1} → statement M
@@ -186,8 +220,13 @@ condition-spec =
     same-length
     returns-2
     operator-number-requires
+    cast-k
+    mul-if2
+    array-read-if2
     same-length-2
     returns-3
+    mul-seen
+    array-write-seen
     rows-requires
     enum-known-g
     enum-told-2
