@@ -32,49 +32,32 @@ pub fn clear(row: &mut [u32])
     }
 }
 
-// Are the 32 numbers from a place on zero? Without branches, so that they are tested as a few.
+// Are the numbers of a whole row from a place on zero? All of them are put together, and tested once.
 fn block_zeros(row: &[u32], at: usize) -> bool
-    requires { ⌜ at + 32 ≤ length (now row) ⌝ }
-    ensures { λ r. ⌜ (r ≡ true → isZero (drop (at + 32) (now (row .entry))) ≡ isZero (drop at (now (row .entry)))) ⌝ }
+    requires { ⌜ at + rowNumbers ≤ length (now row) ⌝ }
+    ensures { λ r. ⌜ (r ≡ true → isZero (drop (at + rowNumbers) (now (row .entry))) ≡ isZero (drop at (now (row .entry)))) ⌝ }
 {
-    let mut zero = true;
+    let mut any = 0u32;
     let mut j = 0;
-    while j < 32 {
-        zero = zero & (row[at + j] == 0);
+    while j < NUMBERS {
+        any = any | row[at + j];
         j += 1;
     }
-    zero
+    any == 0
 }
 
-// Past the rest behind a place, if it lies in the last block and that is of zeros.
-fn past_last(row: &[u32], i: usize) -> usize
-    ensures { λ r. ⌜ isZero (drop r (now (row .entry))) ≡ isZero (drop i (now (row .entry))) ⌝ }
-{
-    if row.len() < 32 {
-        return i;
-    }
-    let last = row.len() - 32;
-    if i < last {
-        return i;
-    }
-    if !block_zeros(row, last) {
-        return i;
-    }
-    row.len()
-}
-
-// Past some of the zeros, block by block.
+// Past some of the zeros, a whole row at a time.
 fn past_zeros(row: &[u32]) -> usize
     ensures { λ r. ⌜ isZero (drop r (now (row .entry))) ≡ isZero (now (row .entry)) ⌝ }
 {
     let mut i = 0usize;
-    while 32 <= row.len() - i {
+    while NUMBERS <= row.len() - i {
         if !block_zeros(row, i) {
             return i;
         }
-        i += 32;
+        i += NUMBERS;
     }
-    past_last(row, i)
+    i
 }
 
 // Is all of it zero?
@@ -82,13 +65,12 @@ pub fn is_zero(row: &[u32]) -> bool
     ensures { λ r. ⌜ r ≡ isZero (now (row .entry)) ⌝ }
 {
     let mut i = past_zeros(row);
+    let mut any = 0u32;
     while i < row.len() {
-        if row[i] != 0 {
-            return false;
-        }
-        i = i + 1;
+        any = any | row[i];
+        i += 1;
     }
-    true
+    any == 0
 }
 
 // A mark alone.

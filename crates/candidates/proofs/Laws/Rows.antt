@@ -1,17 +1,17 @@
 -- Numbers stored into a row one behind the other, and rows that are all zero.
 use mathlib.Core.Path.{_≡_, refl, sym, ap, _∙_}
-use mathlib.Core.Bool.{Bool, true, false, _&&_}
+use mathlib.Core.Bool.{Bool, true, false}
 use mathlib.Core.List.{List, [], _∷_, _++_, append-assoc, append-nil}
 use Prim.Native.Nat.{ℕ, zero, suc, _+_, _-_, _≤_, _<_}
 use native.Mathlib.Numerals.{add-one}
 use native.Mathlib.Omega.{arith}
+use lib.Bits.{bitOr, or-add-and, and-le-r}
 use lib.Dec.{eqb}
 use lib.ListN.{length, getD, set, take, drop, replicate, length-append, length-replicate, length-drop}
 use lib.ListN.{drop-of-length-le}
-use lib.Seq.{set-append-seam, set-at, take-suc, drop-cons, drop-drop, drop-length, take-all, length-take-le}
-use borrow.Author.Tests.{eq-eqb, ne-eqb, eqb-true}
+use lib.Seq.{set-append-seam, set-at, take-suc, drop-cons, drop-length, take-all, length-take-le}
+use borrow.Author.Tests.{ne-eqb}
 use Rattle.chars.specs.Base.{pick}
-use Rattle.chars.proofs.Laws.Tests.{each-true}
 use Rattle.candidates.specs.Rows.{rowNumbers, padded, isZero}
 
 -- ---- stored behind what is there
@@ -134,69 +134,47 @@ module _ {before row : List ℕ} {i : ℕ} (w : Cleared before row i) where
 
 -- ---- all zero
 
--- past a zero it is asked the same
-zero-past : (row : List ℕ) (i : ℕ) → i < length row → getD row i 0 ≡ 0 → isZero (drop (i + 1) row) ≡ isZero (drop i row)
-unfolding isZero
-zero-past row i h e =
-    ap (λ (k : ℕ). isZero (drop k row)) (add-one i)
-    ∙ ap (λ (b : Bool). pick b (isZero (drop (suc i) row)) false) (sym (eq-eqb (getD row i 0) 0 e))
-    ∙ ap isZero (sym (drop-cons row i 0 h))
+or-none : (a b : ℕ) → bitOr a b ≡ 0 → a ≡ 0
+or-none a b e = omega (arith, or-add-and a b, and-le-r a b)
 
--- behind zeros there are zeros
-zero-drop : (xs : List ℕ) (k : ℕ) → isZero xs ≡ true → isZero (drop k xs) ≡ true
-unfolding isZero
-zero-drop xs zero e = e
-zero-drop [] (suc k) e = refl
-zero-drop (x ∷ xs) (suc k) e = zero-drop xs k (by (eqb x 0) e)
-  where
-    by : (b : Bool) → pick b (isZero xs) false ≡ true → isZero xs ≡ true
-    by true z = z
-    by false z = absurd (let y : _≡_ {A = ℕ} 0 1 = cc in omega arith)
+-- two numbers put together are zero exactly if both are
+or-both : (a b : ℕ) (t : Bool) → pick (eqb (bitOr a b) 0) t false ≡ pick (eqb a 0) (pick (eqb b 0) t false) false
+or-both zero b t = refl
+or-both (suc a) b t =
+    ap (λ (z : Bool). pick z t false) (ne-eqb (bitOr (suc a) b) 0 (λ e. omega (arith, or-none (suc a) b e)))
+    ∙ ap (λ (z : Bool). pick z (pick (eqb b 0) t false) false) (sym (ne-eqb (suc a) 0 (λ e. omega arith)))
 
--- where the last n numbers are zeros, so are those behind a place among them
-pub zero-last : (row : List ℕ) (n i : ℕ) → n ≤ length row → length row - n ≤ i
-    → isZero (drop (length row - n + n) row) ≡ isZero (drop (length row - n) row)
-    → isZero (drop (length row) row) ≡ isZero (drop i row)
-unfolding isZero
-zero-last row n i h low e =
-    let end : length row - n + n ≡ length row = omega arith in
-    let k : length row - n + (i - (length row - n)) ≡ i = omega arith in
-    let none : isZero (drop (length row) row) ≡ true = ap isZero (drop-length row) in
-    let last : isZero (drop (length row - n) row) ≡ true =
-    sym e ∙ ap (λ (m : ℕ). isZero (drop m row)) end ∙ none in
-    none
-    ∙ sym (zero-drop (drop (length row - n) row) (i - (length row - n)) last)
-    ∙ ap isZero (drop-drop (i - (length row - n)) (length row - n) row)
-    ∙ ap (λ (m : ℕ). isZero (drop m row)) k
+-- the numbers of a row from one place to another, put together
+pub record Together (row : List ℕ) (at i any : ℕ) : Type 0 where
+  pub same : pick (eqb any 0) (isZero (drop i row)) false ≡ isZero (drop at row)
 
--- one more of a block
-pub block-next :
-    (row : List ℕ) (at j : ℕ) (z : Bool) → (z ≡ true → isZero (drop (at + j) row) ≡ isZero (drop at row))
-    → at + j < length row → (z && eqb (getD row (at + j) 0) 0) ≡ true
-    → isZero (drop (at + (j + 1)) row) ≡ isZero (drop at row)
-block-next row at j z w h e =
-    let b = each-true z (eqb (getD row (at + j) 0) 0) e in
-    let k : at + (j + 1) ≡ at + j + 1 = omega arith in
-    ap (λ (n : ℕ). isZero (drop n row)) k
-    ∙ zero-past row (at + j) h (eqb-true (getD row (at + j) 0) 0 (b .1)) ∙ w (b .0)
+pub together-start : (row : List ℕ) {at i : ℕ} → i ≡ at → Together row at i 0
+together-start row e = record { same = ap (λ (k : ℕ). isZero (drop k row)) e }
 
--- nothing but zeros was passed
-pub record Zeros (row : List ℕ) (i : ℕ) : Type 0 where
-  pub same : isZero (drop i row) ≡ isZero row
-
-pub zeros-start : (row : List ℕ) → Zeros row 0
-zeros-start row = record { same = refl }
-
-module _ {row : List ℕ} {i : ℕ} (w : Zeros row i) where
-  pub zeros-next : i < length row → getD row i 0 ≡ 0 → Zeros row (i + 1)
-  zeros-next h e = record { same = zero-past row i h e ∙ w .same }
-
-  pub zeros-not : i < length row → (getD row i 0 ≡ 0 → ⊥) → false ≡ isZero row
+module _ {row : List ℕ} {at i any : ℕ} (w : Together row at i any) where
+  pub together-next : {k : ℕ} → k ≡ i + 1 → i < length row → Together row at k (bitOr any (getD row i 0))
   unfolding isZero
-  zeros-not h s =
-      ap (λ (b : Bool). pick b (isZero (drop (suc i) row)) false) (sym (ne-eqb (getD row i 0) 0 s))
-      ∙ ap isZero (sym (drop-cons row i 0 h)) ∙ w .same
+  together-next e h =
+      let x = getD row i 0 in
+      record {
+        same = ap (λ (n : ℕ). pick (eqb (bitOr any x) 0) (isZero (drop n row)) false) (e ∙ add-one i)
+            ∙ or-both any x (isZero (drop (suc i) row))
+            ∙ ap (λ (l : List ℕ). pick (eqb any 0) (isZero l) false) (sym (drop-cons row i 0 h))
+            ∙ w .same;
+      }
 
-  pub zeros-all : length row ≤ i → true ≡ isZero row
+  -- as long as they are zero, it is asked the same behind them
+  pub together-zero : (k : ℕ) → k ≡ i → eqb any 0 ≡ true → isZero (drop k row) ≡ isZero (drop at row)
+  together-zero k e z =
+      ap (λ (n : ℕ). isZero (drop n row)) e
+      ∙ ap (λ (b : Bool). pick b (isZero (drop i row)) false) (sym z) ∙ w .same
+
+  pub together-end : length row ≤ i → eqb any 0 ≡ isZero (drop at row)
   unfolding isZero
-  zeros-all h = ap isZero (sym (drop-of-length-le row h)) ∙ w .same
+  together-end h =
+      by (eqb any 0)
+      ∙ ap (λ (l : List ℕ). pick (eqb any 0) (isZero l) false) (sym (drop-of-length-le row h)) ∙ w .same
+    where
+      by : (z : Bool) → z ≡ pick z true false
+      by true = refl
+      by false = refl

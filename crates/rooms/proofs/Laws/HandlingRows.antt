@@ -4,10 +4,10 @@ use mathlib.Core.Bool.{Bool, true, false}
 use mathlib.Core.List.{List, [], _∷_}
 use Prim.Native.Nat.{ℕ, _≤_, _<_}
 use native.Mathlib.Omega.{arith}
-use native.Mathlib.Decide.{decLt}
-use lib.Dec.{leb}
+use lib.Dec.{eqb, leb}
 use lib.ListN.{length, getD}
-use borrow.Author.Tests.{eq-eqb}
+use borrow.Author.Tests.{eq-eqb, eqb-true}
+use Rattle.chars.specs.Base.{pick}
 use Rattle.syntax.specs.Limits.{entryCharacters}
 use Rattle.syntax.specs.Policy.{Effect, Allow, Deny, Operator, StringLike, NumericLessThanEquals, Value, text, number}
 use Rattle.held.specs.Held.{heldText, heldNumber, heldValue}
@@ -26,7 +26,6 @@ use Rattle.rooms.specs.Walking.{Chargeable, Short}
 use Rattle.candidates.proofs.Laws.ChargingLeast.{mark-row}
 use Rattle.candidates.proofs.Laws.Fitting.{row-zero}
 use Rattle.candidates.proofs.Laws.Joining.{joined-nothing}
-use Rattle.candidates.proofs.Laws.Rows.{zeros-start, zeros-not}
 use Rattle.rooms.proofs.Laws.Handling.{Alone, Wild, Bound, Marked, never-any, itself-only, as-marked, back}
 use Rattle.rooms.proofs.Laws.Handling.{fits-denied, fits-allowed}
 use Rattle.rooms.proofs.Laws.Handling.{TextRow, text-row, NumberRow, number-row, only-charged, only-joined}
@@ -38,15 +37,13 @@ pub kind-row :
 kind-row s xs o e f = fits-allowed s xs o e ∙ f
 
 pub zero-first : (xs : List ℕ) → isZero xs ≡ true → getD xs 0 0 ≡ 0
+unfolding isZero
 zero-first [] e = refl
-zero-first (x ∷ xs) e = by (decLt 0 x)
+zero-first (x ∷ xs) e = by (eqb x 0) refl e
   where
-    by : Dec (0 < x) → x ≡ 0
-    by (no n) = omega (arith, n)
-    by (yes z) =
-        let t : false ≡ true = zeros-not (zeros-start (x ∷ xs)) (omega arith) (λ y. omega (arith, z, y)) ∙ e in
-        let y : _≡_ {A = ℕ} 0 1 = cc in
-        absurd (omega arith)
+    by : (b : Bool) → eqb x 0 ≡ b → pick b (isZero xs) false ≡ true → x ≡ 0
+    by true z f = eqb-true x 0 z
+    by false z f = let y : _≡_ {A = ℕ} 0 1 = cc in absurd (omega arith)
 
 pub content-none : (xs : List ℕ) → getD xs 0 0 ≡ 0 → contentOf xs ≡ empty
 unfolding contentOf

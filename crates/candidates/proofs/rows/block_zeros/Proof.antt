@@ -1,38 +1,29 @@
--- As long as all were zero, it is asked the same behind them.
-use mathlib.Core.Path.{_≡_, ap, _∙_}
-use mathlib.Core.Bool.{true}
-use Prim.Native.Nat.{ℕ, _≤_, _-_, _+_}
+-- The numbers of the block are put together one by one.
+use Prim.Native.Nat.{_≤_, _-_, _+_}
 use native.Mathlib.Omega.{arith}
-use lib.ListN.{length, drop}
-use Rattle.candidates.specs.Rows.{isZero}
-use Rattle.candidates.proofs.Laws.Rows.{block-next}
+use Rattle.candidates.specs.Rows.{rowNumbers}
+use Rattle.candidates.proofs.Laws.Rows.{Together, together-start, together-next, together-zero}
 use borrow.Author.Needs.{needs}
 use Rattle.candidates.proofs.rows.block_zeros.Statement.{statement}
 use Rattle.candidates.proofs.rows.block_zeros.Tie as tie
-use Rattle.candidates.proofs.rows.block_zeros.Reads as reads
-use Rattle.candidates.proofs.rows.block_zeros.Lts as lts
 
 abbrev Inv-loop : tie.InvT-loop
-Inv-loop row at zero₀ j₀ zero j =
-    (j ≤ 32) × (zero ≡ true → isZero (drop (at + j) row) ≡ isZero (drop at row))
+Inv-loop row at any₀ j₀ any j = (j ≤ rowNumbers) × (Together row at (at + j) any)
 
 abbrev μ-loop : tie.MeasureT-loop
-μ-loop row at zero₀ j₀ zero j =
-    32 - j
+μ-loop row at any₀ j₀ any j = rowNumbers - j
 
 loop-holds : tie.Need-loop-holds Inv-loop μ-loop
-loop-holds c =
-    let none : c .args .at + 0 ≡ c .args .at = omega arith in
-    (search needs, λ e. ap (λ (n : ℕ). isZero (drop n (c .args .row .now))) none)
+loop-holds c = (omega arith, together-start (c .args .row .now) (omega arith))
 
-add-zero : tie.Need-add-zero Inv-loop μ-loop
-add-zero c = search needs
+add-any : tie.Need-add-any Inv-loop μ-loop
+add-any c = search needs
 
-mul-zero : tie.Need-mul-zero Inv-loop μ-loop
-mul-zero c = search needs
+mul-any : tie.Need-mul-any Inv-loop μ-loop
+mul-any c = search needs
 
-shared-slice-read-zero : tie.Need-shared-slice-read-zero Inv-loop μ-loop
-shared-slice-read-zero c = search needs
+shared-slice-read-any : tie.Need-shared-slice-read-any Inv-loop μ-loop
+shared-slice-read-any c = search needs
 
 add-j : tie.Need-add-j Inv-loop μ-loop
 add-j c = search needs
@@ -43,15 +34,12 @@ loop-less c = search needs
 loop-again : tie.Need-loop-again Inv-loop μ-loop
 loop-again c =
     let at-loop = c .before .before in
-    let start = at-loop .before in
-    (omega arith, λ e. block-next (start .args .row .now) (start .args .at) (at-loop .loop .j) (at-loop .loop .zero) (at-loop .loop .inv .1) (omega arith) e)
+    (omega arith, together-next (at-loop .loop .inv .1) (omega arith) (omega arith))
 
 returns : tie.Need-returns Inv-loop μ-loop
 returns c =
-    let at-loop = c .before in
-    let start = at-loop .before in
-    let full : 32 ≡ at-loop .loop .j = omega arith in
-    λ e. ap (λ (n : ℕ). isZero (drop (start .args .at + n) (start .args .row .now))) full ∙ at-loop .loop .inv .1 e
+    let start = c .before .before in
+    together-zero (c .before .loop .inv .1) (start .args .at + rowNumbers) (omega arith)
 
 pub block-zeros-spec : {M : Type 1} → statement M
 block-zeros-spec =
@@ -60,9 +48,9 @@ block-zeros-spec =
     Inv-loop
     μ-loop
     loop-holds
-    add-zero
-    mul-zero
-    shared-slice-read-zero
+    add-any
+    mul-any
+    shared-slice-read-any
     add-j
     loop-less
     loop-again

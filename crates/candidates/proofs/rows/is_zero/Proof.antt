@@ -1,40 +1,29 @@
--- Nothing but zeros was passed.
+-- What is left behind the rows passed is put together one by one.
+use mathlib.Core.Path.{refl, _∙_}
 use Prim.Native.Nat.{_-_}
 use lib.ListN.{length}
-use Rattle.candidates.proofs.Laws.Rows.{Zeros, zeros-next, zeros-not, zeros-all}
+use Rattle.candidates.proofs.Laws.Rows.{Together, together-start, together-next, together-end}
 use borrow.Author.Needs.{needs}
 use Rattle.candidates.proofs.rows.is_zero.Statement.{statement}
 use Rattle.candidates.proofs.rows.is_zero.Tie as tie
-use Rattle.candidates.proofs.rows.is_zero.Reads as reads
-use Rattle.candidates.proofs.rows.is_zero.Lts as lts
-use Rattle.candidates.proofs.rows.past_zeros.Reads as past-zeros-reads
 
 abbrev Inv-loop : tie.InvT-loop
-Inv-loop row i₀ i =
-    Zeros row i
+Inv-loop row i₀ any₀ i any = Together row i₀ i any
 
 abbrev μ-loop : tie.MeasureT-loop
-μ-loop row i₀ i =
-    length row - i
+μ-loop row i₀ any₀ i any = length row - i
 
 past-zeros-requires : tie.Need-past-zeros-requires Inv-loop μ-loop
 past-zeros-requires c κs = search needs
 
 loop-holds : tie.Need-loop-holds Inv-loop μ-loop
-loop-holds c =
-    record { same = c .past-zeros .ensures }
+loop-holds c = together-start (c .before .before .args .row .now) refl
 
-mul-if1 : tie.Need-mul-if1 Inv-loop μ-loop
-mul-if1 c = search needs
+mul-any : tie.Need-mul-any Inv-loop μ-loop
+mul-any c = search needs
 
-shared-slice-read-if1 : tie.Need-shared-slice-read-if1 Inv-loop μ-loop
-shared-slice-read-if1 c = search needs
-
-returns : tie.Need-returns Inv-loop μ-loop
-returns c =
-    let at-loop-test = c .before .before in
-    let at-loop = at-loop-test .before in
-    zeros-not (at-loop .loop .inv) (at-loop-test .loop-test .taken) (c .if1 .taken)
+shared-slice-read-any : tie.Need-shared-slice-read-any Inv-loop μ-loop
+shared-slice-read-any c = search needs
 
 add-i : tie.Need-add-i Inv-loop μ-loop
 add-i c = search needs
@@ -43,15 +32,10 @@ loop-less : tie.Need-loop-less Inv-loop μ-loop
 loop-less c = search needs
 
 loop-again : tie.Need-loop-again Inv-loop μ-loop
-loop-again c =
-    let at-loop-test = c .before .before in
-    let at-loop = at-loop-test .before in
-    zeros-next (at-loop .loop .inv) (at-loop-test .loop-test .taken) (c .if1 .left)
+loop-again c = together-next (c .before .before .loop .inv) refl (c .before .loop-test .taken)
 
-returns-2 : tie.Need-returns-2 Inv-loop μ-loop
-returns-2 c =
-    let at-loop = c .before in
-    zeros-all (at-loop .loop .inv) (c .loop-test .left)
+returns : tie.Need-returns Inv-loop μ-loop
+returns c = together-end (c .before .loop .inv) (c .loop-test .left) ∙ c .before .before .past-zeros .ensures
 
 pub is-zero-spec : {M : Type 1} → statement M
 is-zero-spec =
@@ -61,10 +45,9 @@ is-zero-spec =
     μ-loop
     past-zeros-requires
     loop-holds
-    mul-if1
-    shared-slice-read-if1
-    returns
+    mul-any
+    shared-slice-read-any
     add-i
     loop-less
     loop-again
-    returns-2)
+    returns)

@@ -1,4 +1,4 @@
--- Every block passed was of zeros.
+-- Every whole row passed was of zeros.
 use mathlib.Core.Path.{_≡_, refl, _∙_}
 use Prim.Native.Nat.{_≤_, _-_}
 use native.Mathlib.Omega.{arith}
@@ -8,10 +8,6 @@ use Rattle.candidates.specs.Rows.{isZero}
 use borrow.Author.Needs.{needs}
 use Rattle.candidates.proofs.rows.past_zeros.Statement.{statement}
 use Rattle.candidates.proofs.rows.past_zeros.Tie as tie
-use Rattle.candidates.proofs.rows.past_zeros.Reads as reads
-use Rattle.candidates.proofs.rows.past_zeros.Lts as lts
-use Rattle.candidates.proofs.rows.block_zeros.Reads as block-zeros-reads
-use Rattle.candidates.proofs.rows.past_last.Reads as past-last-reads
 
 abbrev Inv-loop : tie.InvT-loop
 Inv-loop row i₀ i =
@@ -51,13 +47,10 @@ loop-again c =
     let at-loop = at-block-zeros .before .before in
     (omega (arith, at-loop .loop .inv .0), at-block-zeros .block-zeros .ensures (not-false (at-block-zeros .block-zeros .result) (c .if1 .left)) ∙ at-loop .loop .inv .1)
 
-past-last-requires : tie.Need-past-last-requires Inv-loop μ-loop
-past-last-requires c κs = search needs
-
 returns-2 : tie.Need-returns-2 Inv-loop μ-loop
 returns-2 c =
-    let at-loop = c .before .before in
-    c .past-last .ensures ∙ at-loop .loop .inv .1
+    let at-loop = c .before in
+    at-loop .loop .inv .1
 
 pub past-zeros-spec : {M : Type 1} → statement M
 past-zeros-spec =
@@ -72,5 +65,4 @@ past-zeros-spec =
     add-i
     loop-less
     loop-again
-    past-last-requires
     returns-2)
