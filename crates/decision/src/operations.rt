@@ -11,7 +11,9 @@ use policy::reading;
 use policy::reading::Read;
 use policy::refusals::Refusal;
 
-// A record of so many bytes is held in a short run, most are no longer; a longer one needs a longer run.
+// A record of so many bytes is held in a run of 1,056 numbers, most are no longer; of 2,112; and a longer one in a run of 8,448.
+pub const TERSE: usize = 512;
+
 pub const BRIEF: usize = 1024;
 
 // A decision; or a refusal.
@@ -37,8 +39,12 @@ fn decide_record(policy: &[u32], asked: &[u8]) -> Answer
     requires { ⌜ Lying held (now policy) 0 ⌝ }
     ensures { λ r. ⌜ ((p : Policy) → Lies (now (policy .entry)) 0 (held p) → RecordDecides p (now (asked .entry)) (toldAnswer r)) ⌝ }
 {
-    if asked.len() <= BRIEF {
+    if asked.len() <= TERSE {
         let mut run = [0u32; 1056];
+        return decide_asked(policy, asked, &mut run);
+    }
+    if asked.len() <= BRIEF {
+        let mut run = [0u32; 2112];
         return decide_asked(policy, asked, &mut run);
     }
     let mut run = [0u32; 8448];
@@ -60,8 +66,16 @@ fn decide_lent(policy: &[u8], asked: &[u8], run: &mut [u32]) -> Answer
 pub fn decide(policy: &[u8], asked: &[u8]) -> Answer
     ensures { λ r. ⌜ Decides (now (policy .entry)) (now (asked .entry)) (toldAnswer r) ⌝ }
 {
+    if policy.len() <= reading::TINY {
+        let mut run = [0u32; 1024];
+        return decide_lent(policy, asked, &mut run);
+    }
     if policy.len() <= reading::SHORT {
         let mut run = [0u32; 4096];
+        return decide_lent(policy, asked, &mut run);
+    }
+    if policy.len() <= reading::MIDDLE {
+        let mut run = [0u32; 8192];
         return decide_lent(policy, asked, &mut run);
     }
     let mut run = [0u32; 16384];

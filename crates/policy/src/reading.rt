@@ -14,8 +14,13 @@ use text::scan;
 use text::verdict::Verdict;
 use text::walk;
 
-// A policy text of so many bytes is held in a run of as many numbers, most are no longer; a longer one needs a longer run.
-pub const SHORT: usize = 4096;
+// A policy text of so many bytes is held in a run of 1,024 numbers, of 4,096, of 8,192, and a longer one in a run of 16,384.
+// A run has twice as many numbers as its text has bytes, or more, but for the longest texts; and most texts are short.
+pub const TINY: usize = 512;
+
+pub const SHORT: usize = 2048;
+
+pub const MIDDLE: usize = 4096;
 
 // What was read lies at the run's beginning, up to this place; or a refusal.
 pub enum Read {

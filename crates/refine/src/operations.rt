@@ -89,6 +89,23 @@ pub fn feed_record(
     feed_asked(run, asked, request, room)
 }
 
+// Feed, under a held policy whose room this is.
+fn feed_holding(run: &[u32], asked: &[u8], room: &mut [u32]) -> decision::operations::Answer
+    requires { ⌜ Holding (now run) (now room) ⌝ }
+    ensures { λ r. ⌜ ((p : Policy) → Lies (now (run .entry)) 0 (held p) → Sound p → holdsFor p (now (room .entry)) ≡ true → PolicyFeeds p (now (asked .entry)) (now (room .entry)) (deciding.toldAnswer r) (now (room .exit))) ⌝ }
+{
+    if asked.len() <= decision::operations::TERSE {
+        let mut request = [0u32; 1056];
+        return feed_asked(run, asked, &mut request, room);
+    }
+    if asked.len() <= decision::operations::BRIEF {
+        let mut request = [0u32; 2112];
+        return feed_asked(run, asked, &mut request, room);
+    }
+    let mut request = [0u32; 8448];
+    feed_asked(run, asked, &mut request, room)
+}
+
 // Feed, under a held policy.
 fn feed_held(run: &[u32], asked: &[u8], room: &mut [u32]) -> decision::operations::Answer
     requires { ⌜ (HeldSound (now run)) × (isRoom (now room) ≡ true) ⌝ }
@@ -97,12 +114,7 @@ fn feed_held(run: &[u32], asked: &[u8], room: &mut [u32]) -> decision::operation
     if !holds_room(run, room) {
         return decision::operations::Answer::Refused(Refusal::RoomContent);
     }
-    if asked.len() <= decision::operations::BRIEF {
-        let mut request = [0u32; 1056];
-        return feed_asked(run, asked, &mut request, room);
-    }
-    let mut request = [0u32; 8448];
-    feed_asked(run, asked, &mut request, room)
+    feed_holding(run, asked, room)
 }
 
 // Feed, with a run lent for the policy.
@@ -122,18 +134,34 @@ fn feed_lent(
     }
 }
 
+// Feed, with a room of the right length: the run is as long as the policy needs.
+fn feed_sized(policy: &[u8], asked: &[u8], room: &mut [u32]) -> decision::operations::Answer
+    requires { ⌜ isRoom (now room) ≡ true ⌝ }
+    ensures { λ r. ⌜ Feeds (now (policy .entry)) (now (asked .entry)) (now (room .entry)) (deciding.toldAnswer r) (now (room .exit)) ⌝ }
+{
+    if policy.len() <= reading::TINY {
+        let mut run = [0u32; 1024];
+        return feed_lent(policy, asked, room, &mut run);
+    }
+    if policy.len() <= reading::SHORT {
+        let mut run = [0u32; 4096];
+        return feed_lent(policy, asked, room, &mut run);
+    }
+    if policy.len() <= reading::MIDDLE {
+        let mut run = [0u32; 8192];
+        return feed_lent(policy, asked, room, &mut run);
+    }
+    let mut run = [0u32; 16384];
+    feed_lent(policy, asked, room, &mut run)
+}
+
 pub fn feed(policy: &[u8], asked: &[u8], room: &mut [u32]) -> decision::operations::Answer
     ensures { λ r. ⌜ Feeds (now (policy .entry)) (now (asked .entry)) (now (room .entry)) (deciding.toldAnswer r) (now (room .exit)) ⌝ }
 {
     if room.len() != ROOM {
         return decision::operations::Answer::Refused(Refusal::RoomLength);
     }
-    if policy.len() <= reading::SHORT {
-        let mut run = [0u32; 4096];
-        return feed_lent(policy, asked, room, &mut run);
-    }
-    let mut run = [0u32; 16384];
-    feed_lent(policy, asked, room, &mut run)
+    feed_sized(policy, asked, room)
 }
 
 // Join, under a held policy.
@@ -165,6 +193,27 @@ fn join_lent(policy: &[u8], room: &mut [u32], other: &[u32], run: &mut [u32]) ->
     }
 }
 
+// Join, with rooms of the right length, likewise.
+fn join_sized(policy: &[u8], room: &mut [u32], other: &[u32]) -> Answer
+    requires { ⌜ (isRoom (now room) ≡ true) × (isRoom (now other) ≡ true) ⌝ }
+    ensures { λ r. ⌜ Joins (now (policy .entry)) (now (room .entry)) (now (other .entry)) (toldDone r) (now (room .exit)) ⌝ }
+{
+    if policy.len() <= reading::TINY {
+        let mut run = [0u32; 1024];
+        return join_lent(policy, room, other, &mut run);
+    }
+    if policy.len() <= reading::SHORT {
+        let mut run = [0u32; 4096];
+        return join_lent(policy, room, other, &mut run);
+    }
+    if policy.len() <= reading::MIDDLE {
+        let mut run = [0u32; 8192];
+        return join_lent(policy, room, other, &mut run);
+    }
+    let mut run = [0u32; 16384];
+    join_lent(policy, room, other, &mut run)
+}
+
 pub fn join(policy: &[u8], room: &mut [u32], other: &[u32]) -> Answer
     ensures { λ r. ⌜ Joins (now (policy .entry)) (now (room .entry)) (now (other .entry)) (toldDone r) (now (room .exit)) ⌝ }
 {
@@ -174,12 +223,7 @@ pub fn join(policy: &[u8], room: &mut [u32], other: &[u32]) -> Answer
     if other.len() != ROOM {
         return Answer::Refused(Refusal::RoomLength);
     }
-    if policy.len() <= reading::SHORT {
-        let mut run = [0u32; 4096];
-        return join_lent(policy, room, other, &mut run);
-    }
-    let mut run = [0u32; 16384];
-    join_lent(policy, room, other, &mut run)
+    join_sized(policy, room, other)
 }
 
 // Finish, under a held policy: 10, or the refined policy handed out.
@@ -215,18 +259,34 @@ fn finish_lent(
     }
 }
 
+// Finish, with a room of the right length, likewise.
+fn finish_sized(policy: &[u8], room: &[u32], out: &mut [u8]) -> writing::operations::Answer
+    requires { ⌜ isRoom (now room) ≡ true ⌝ }
+    ensures { λ r. ⌜ Finishes (now (policy .entry)) (now (room .entry)) (now (out .entry)) (writing.toldAnswer r) (now (out .exit)) ⌝ }
+{
+    if policy.len() <= reading::TINY {
+        let mut run = [0u32; 1024];
+        return finish_lent(policy, room, out, &mut run);
+    }
+    if policy.len() <= reading::SHORT {
+        let mut run = [0u32; 4096];
+        return finish_lent(policy, room, out, &mut run);
+    }
+    if policy.len() <= reading::MIDDLE {
+        let mut run = [0u32; 8192];
+        return finish_lent(policy, room, out, &mut run);
+    }
+    let mut run = [0u32; 16384];
+    finish_lent(policy, room, out, &mut run)
+}
+
 pub fn finish(policy: &[u8], room: &[u32], out: &mut [u8]) -> writing::operations::Answer
     ensures { λ r. ⌜ Finishes (now (policy .entry)) (now (room .entry)) (now (out .entry)) (writing.toldAnswer r) (now (out .exit)) ⌝ }
 {
     if room.len() != ROOM {
         return writing::operations::Answer::Refused(Refusal::RoomLength);
     }
-    if policy.len() <= reading::SHORT {
-        let mut run = [0u32; 4096];
-        return finish_lent(policy, room, out, &mut run);
-    }
-    let mut run = [0u32; 16384];
-    finish_lent(policy, room, out, &mut run)
+    finish_sized(policy, room, out)
 }
 
 // An empty room.

@@ -1,9 +1,8 @@
--- The room is refused; or the record is looked at, with a run as long as it needs.
+-- The room is refused; or the record is looked at.
 use mathlib.Core.Path.{_≡_, sym, _∙_}
 use mathlib.Core.Bool.{Bool, true}
 use mathlib.Core.List.{List}
 use Prim.Native.Nat.{ℕ}
-use native.Mathlib.Omega.{arith}
 use borrow.Author.Tests.{not-true, not-false}
 use Rattle.syntax.specs.Policy.{Policy}
 use Rattle.held.specs.Held.{held}
@@ -36,53 +35,23 @@ returns c =
     λ p l s. no-content
     (sym (at-holds-room .holds-room .ensures p l s) ∙ not-true (at-holds-room .holds-room .result) (c .if1 .taken))
 
-slice-aggregate-feed-asked : tie.Need-slice-aggregate-feed-asked
-slice-aggregate-feed-asked c = search needs
-
-feed-asked-requires : tie.Need-feed-asked-requires
-feed-asked-requires c κs =
-    let at-if1 = c .before .before .before in
-    let at-holds-room = at-if1 .before in
-    let start = at-holds-room .before .before .before .before .before in (
-      holding (start .pre .0) (start .pre .1) (at-holds-room .holds-room .ensures)
-          (not-false (at-holds-room .holds-room .result) (at-if1 .if1 .left)),
-      record { enough = λ h. omega (arith, c .before .before .if2 .taken); bounded = omega arith },
-    )
+feed-holding-requires : tie.Need-feed-holding-requires
+feed-holding-requires c κs =
+    let at-holds-room = c .before .before in
+    let start = at-holds-room .before .before .before .before .before in
+    holding (start .pre .0) (start .pre .1) (at-holds-room .holds-room .ensures)
+    (not-false (at-holds-room .holds-room .result) (c .before .if1 .left))
 
 same-length-2 : tie.Need-same-length-2
 same-length-2 c = search needs
 
 returns-2 : tie.Need-returns-2
 returns-2 c =
-    let at-fed = c .before .before .before in
-    let at-if1 = at-fed .before .before .before .before in
+    let at-fed = c .before .before in
+    let at-if1 = at-fed .before .before in
     let at-holds-room = at-if1 .before in
     let told = not-false (at-holds-room .holds-room .result) (at-if1 .if1 .left) in
-    λ p l s. at-fed .feed-asked .ensures .1 p l s (sym (at-holds-room .holds-room .ensures p l s) ∙ told)
-
-slice-aggregate-feed-asked-2 : tie.Need-slice-aggregate-feed-asked-2
-slice-aggregate-feed-asked-2 c = search needs
-
-feed-asked-requires-2 : tie.Need-feed-asked-requires-2
-feed-asked-requires-2 c κs =
-    let at-if1 = c .before .before .before in
-    let at-holds-room = at-if1 .before in
-    let start = at-holds-room .before .before .before .before .before in (
-      holding (start .pre .0) (start .pre .1) (at-holds-room .holds-room .ensures)
-          (not-false (at-holds-room .holds-room .result) (at-if1 .if1 .left)),
-      record { enough = λ h. omega arith; bounded = omega arith },
-    )
-
-same-length-3 : tie.Need-same-length-3
-same-length-3 c = search needs
-
-returns-3 : tie.Need-returns-3
-returns-3 c =
-    let at-fed = c .before .before .before in
-    let at-if1 = at-fed .before .before .before .before in
-    let at-holds-room = at-if1 .before in
-    let told = not-false (at-holds-room .holds-room .result) (at-if1 .if1 .left) in
-    λ p l s. at-fed .feed-asked2 .ensures .1 p l s (sym (at-holds-room .holds-room .ensures p l s) ∙ told)
+    λ p l s. at-fed .feed-holding .ensures p l s (sym (at-holds-room .holds-room .ensures p l s) ∙ told)
 
 pub feed-held-spec : {M : Type 1} → statement M
 feed-held-spec =
@@ -91,11 +60,6 @@ feed-held-spec =
     holds-room-requires
     same-length
     returns
-    slice-aggregate-feed-asked
-    feed-asked-requires
+    feed-holding-requires
     same-length-2
-    returns-2
-    slice-aggregate-feed-asked-2
-    feed-asked-requires-2
-    same-length-3
-    returns-3)
+    returns-2)
