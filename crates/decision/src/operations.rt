@@ -11,7 +11,7 @@ use policy::reading;
 use policy::reading::Read;
 use policy::refusals::Refusal;
 
-// A record of so many bytes is held in a run of 1,056 numbers, most are no longer; of 2,112; and a longer one in a run of 8,448.
+// A record of at most so many bytes is held in a run of twice as many numbers and some more, and a longer one in a run of 8,448.
 pub const TERSE: usize = 512;
 
 pub const BRIEF: usize = 1024;
@@ -68,6 +68,10 @@ pub fn decide(policy: &[u8], asked: &[u8]) -> Answer
 {
     if policy.len() <= reading::TINY {
         let mut run = [0u32; 1024];
+        return decide_lent(policy, asked, &mut run);
+    }
+    if policy.len() <= reading::SMALL {
+        let mut run = [0u32; 2048];
         return decide_lent(policy, asked, &mut run);
     }
     if policy.len() <= reading::SHORT {

@@ -14,9 +14,11 @@ use text::scan;
 use text::verdict::Verdict;
 use text::walk;
 
-// A policy text of so many bytes is held in a run of 1,024 numbers, of 4,096, of 8,192, and a longer one in a run of 16,384.
-// A run has twice as many numbers as its text has bytes, or more, but for the longest texts; and most texts are short.
+// A policy text of at most so many bytes is held in a run of twice as many numbers, and a longer one in a run of 16,384: to make
+// a run costs by its length, and most texts are short.
 pub const TINY: usize = 512;
+
+pub const SMALL: usize = 1024;
 
 pub const SHORT: usize = 2048;
 

@@ -143,6 +143,10 @@ fn feed_sized(policy: &[u8], asked: &[u8], room: &mut [u32]) -> decision::operat
         let mut run = [0u32; 1024];
         return feed_lent(policy, asked, room, &mut run);
     }
+    if policy.len() <= reading::SMALL {
+        let mut run = [0u32; 2048];
+        return feed_lent(policy, asked, room, &mut run);
+    }
     if policy.len() <= reading::SHORT {
         let mut run = [0u32; 4096];
         return feed_lent(policy, asked, room, &mut run);
@@ -200,6 +204,10 @@ fn join_sized(policy: &[u8], room: &mut [u32], other: &[u32]) -> Answer
 {
     if policy.len() <= reading::TINY {
         let mut run = [0u32; 1024];
+        return join_lent(policy, room, other, &mut run);
+    }
+    if policy.len() <= reading::SMALL {
+        let mut run = [0u32; 2048];
         return join_lent(policy, room, other, &mut run);
     }
     if policy.len() <= reading::SHORT {
@@ -266,6 +274,10 @@ fn finish_sized(policy: &[u8], room: &[u32], out: &mut [u8]) -> writing::operati
 {
     if policy.len() <= reading::TINY {
         let mut run = [0u32; 1024];
+        return finish_lent(policy, room, out, &mut run);
+    }
+    if policy.len() <= reading::SMALL {
+        let mut run = [0u32; 2048];
         return finish_lent(policy, room, out, &mut run);
     }
     if policy.len() <= reading::SHORT {

@@ -80,6 +80,10 @@ pub fn restate(policy: &[u8], out: &mut [u8]) -> Answer
         let mut run = [0u32; 1024];
         return restate_lent(policy, out, &mut run);
     }
+    if policy.len() <= reading::SMALL {
+        let mut run = [0u32; 2048];
+        return restate_lent(policy, out, &mut run);
+    }
     if policy.len() <= reading::SHORT {
         let mut run = [0u32; 4096];
         return restate_lent(policy, out, &mut run);

@@ -44,15 +44,27 @@ slice-aggregate-feed-lent-4 : tie.Need-slice-aggregate-feed-lent-4
 slice-aggregate-feed-lent-4 c = search needs
 
 feed-lent-requires-4 : tie.Need-feed-lent-requires-4
-feed-lent-requires-4 c κs =
-    let start = c .before .before .before .before .before .before .before .before in
-    (record { enough = λ h. omega (arith, h); bounded = omega arith }, start .pre)
+feed-lent-requires-4 c κs = search needs
 
 same-length-4 : tie.Need-same-length-4
 same-length-4 c = search needs
 
 returns-4 : tie.Need-returns-4
 returns-4 c = search needs
+
+slice-aggregate-feed-lent-5 : tie.Need-slice-aggregate-feed-lent-5
+slice-aggregate-feed-lent-5 c = search needs
+
+feed-lent-requires-5 : tie.Need-feed-lent-requires-5
+feed-lent-requires-5 c κs =
+    let start = c .before .before .before .before .before .before .before .before .before in
+    (record { enough = λ h. omega (arith, h); bounded = omega arith }, start .pre)
+
+same-length-5 : tie.Need-same-length-5
+same-length-5 c = search needs
+
+returns-5 : tie.Need-returns-5
+returns-5 c = search needs
 
 pub feed-sized-spec : {M : Type 1} → statement M
 feed-sized-spec =
@@ -73,4 +85,8 @@ feed-sized-spec =
     slice-aggregate-feed-lent-4
     feed-lent-requires-4
     same-length-4
-    returns-4)
+    returns-4
+    slice-aggregate-feed-lent-5
+    feed-lent-requires-5
+    same-length-5
+    returns-5)

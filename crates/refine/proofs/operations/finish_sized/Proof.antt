@@ -44,15 +44,27 @@ slice-aggregate-finish-lent-4 : tie.Need-slice-aggregate-finish-lent-4
 slice-aggregate-finish-lent-4 c = search needs
 
 finish-lent-requires-4 : tie.Need-finish-lent-requires-4
-finish-lent-requires-4 c κs =
-    let start = c .before .before .before .before .before .before .before .before in
-    (record { enough = λ h. omega (arith, h); bounded = omega arith }, start .pre)
+finish-lent-requires-4 c κs = search needs
 
 same-length-4 : tie.Need-same-length-4
 same-length-4 c = search needs
 
 returns-4 : tie.Need-returns-4
 returns-4 c = search needs
+
+slice-aggregate-finish-lent-5 : tie.Need-slice-aggregate-finish-lent-5
+slice-aggregate-finish-lent-5 c = search needs
+
+finish-lent-requires-5 : tie.Need-finish-lent-requires-5
+finish-lent-requires-5 c κs =
+    let start = c .before .before .before .before .before .before .before .before .before in
+    (record { enough = λ h. omega (arith, h); bounded = omega arith }, start .pre)
+
+same-length-5 : tie.Need-same-length-5
+same-length-5 c = search needs
+
+returns-5 : tie.Need-returns-5
+returns-5 c = search needs
 
 pub finish-sized-spec : {M : Type 1} → statement M
 finish-sized-spec =
@@ -73,4 +85,8 @@ finish-sized-spec =
     slice-aggregate-finish-lent-4
     finish-lent-requires-4
     same-length-4
-    returns-4)
+    returns-4
+    slice-aggregate-finish-lent-5
+    finish-lent-requires-5
+    same-length-5
+    returns-5)

@@ -44,15 +44,27 @@ slice-aggregate-join-lent-4 : tie.Need-slice-aggregate-join-lent-4
 slice-aggregate-join-lent-4 c = search needs
 
 join-lent-requires-4 : tie.Need-join-lent-requires-4
-join-lent-requires-4 c κs =
-    let start = c .before .before .before .before .before .before .before .before in
-    (record { enough = λ h. omega (arith, h); bounded = omega arith }, start .pre .0, start .pre .1)
+join-lent-requires-4 c κs = search needs
 
 same-length-4 : tie.Need-same-length-4
 same-length-4 c = search needs
 
 returns-4 : tie.Need-returns-4
 returns-4 c = search needs
+
+slice-aggregate-join-lent-5 : tie.Need-slice-aggregate-join-lent-5
+slice-aggregate-join-lent-5 c = search needs
+
+join-lent-requires-5 : tie.Need-join-lent-requires-5
+join-lent-requires-5 c κs =
+    let start = c .before .before .before .before .before .before .before .before .before in
+    (record { enough = λ h. omega (arith, h); bounded = omega arith }, start .pre .0, start .pre .1)
+
+same-length-5 : tie.Need-same-length-5
+same-length-5 c = search needs
+
+returns-5 : tie.Need-returns-5
+returns-5 c = search needs
 
 pub join-sized-spec : {M : Type 1} → statement M
 join-sized-spec =
@@ -73,4 +85,8 @@ join-sized-spec =
     slice-aggregate-join-lent-4
     join-lent-requires-4
     same-length-4
-    returns-4)
+    returns-4
+    slice-aggregate-join-lent-5
+    join-lent-requires-5
+    same-length-5
+    returns-5)
