@@ -15,6 +15,7 @@ pub mod Telling
 pub mod Bytes
 pub mod Each
 pub mod Chars
+pub mod Plain
 pub mod Pieces
 pub mod Lying
 pub mod Handing

@@ -2,6 +2,7 @@
 pub mod WrittenForm
 pub mod Valid
 pub mod Showing
+pub mod Plain
 pub mod Bytes
 pub mod Operations
 pub mod Restating

@@ -6,6 +6,7 @@ ghost use Prim.Native.Nat.{_≤_};
 ghost use Rattle.chars.specs.Written.{written, writtenText};
 ghost use Rattle.writing.specs.Showing.{Adds};
 ghost use Rattle.writing.specs.Bytes.{between};
+use crate::plain;
 use held::limits;
 
 // The place of one who wrote more than a result may have.
@@ -42,24 +43,39 @@ pub fn put_char(out: &mut [u8], at: usize, c: u32) -> usize
     next
 }
 
+// Whether they fit is tested once, for all.
 pub fn put_bytes(out: &mut [u8], at: usize, bs: &[u8]) -> usize
     ensures { λ r. ⌜ Adds (now (bs .entry)) (now (out .entry)) at r (now (out .exit)) ⌝ }
 {
+    if out.len() < bs.len() {
+        return OVER;
+    }
+    if out.len() - bs.len() < at {
+        return OVER;
+    }
     let mut next = at;
     let mut i = 0usize;
     while i < bs.len() {
-        next = put(out, next, bs[i]);
+        out[next] = bs[i];
+        next = next + 1;
         i = i + 1;
     }
     next
 }
 
+// Characters in their written form: those that are plain together, and each other one by itself.
 pub fn put_text(out: &mut [u8], at: usize, cs: &[u32]) -> usize
     ensures { λ r. ⌜ Adds (writtenText (now (cs .entry))) (now (out .entry)) at r (now (out .exit)) ⌝ }
 {
     let mut next = at;
     let mut i = 0usize;
     while i < cs.len() {
+        let b = plain::put_plain(out, next, cs, i);
+        next = b.next;
+        i = b.i;
+        if i == cs.len() {
+            return next;
+        }
         next = put_char(out, next, cs[i]);
         i = i + 1;
     }

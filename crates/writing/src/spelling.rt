@@ -5,6 +5,7 @@ ghost use Prim.Native.Nat.{_+_, _%_};
 ghost use Rattle.chars.specs.Written.{writtenText};
 ghost use Rattle.writing.specs.WrittenForm.{bare, isEscaped, spelling, spelled, digitsUpTo};
 ghost use Rattle.writing.specs.Showing.{Adds};
+use crate::plain;
 use crate::sink;
 use syntax::forms;
 
@@ -48,25 +49,38 @@ fn put_symbol(out: &mut [u8], at: usize, wild: bool, y: u32) -> usize
     sink::put(out, behind, 125)
 }
 
+// The symbols of an entry: those that are plain together, and each other one by itself.
 pub fn put_spelled(out: &mut [u8], at: usize, wild: bool, ys: &[u32]) -> usize
     ensures { λ r. ⌜ Adds (writtenText (spelled wild (now (ys .entry)))) (now (out .entry)) at r (now (out .exit)) ⌝ }
 {
     let mut next = at;
     let mut i = 0usize;
     while i < ys.len() {
+        let b = plain::put_plain(out, next, ys, i);
+        next = b.next;
+        i = b.i;
+        if i == ys.len() {
+            return next;
+        }
         next = put_symbol(out, next, wild, ys[i]);
         i = i + 1;
     }
     next
 }
 
-// Nothing is escaped.
+// The same where nothing is escaped.
 pub fn put_bare(out: &mut [u8], at: usize, ys: &[u32]) -> usize
     ensures { λ r. ⌜ Adds (writtenText (map bare (now (ys .entry)))) (now (out .entry)) at r (now (out .exit)) ⌝ }
 {
     let mut next = at;
     let mut i = 0usize;
     while i < ys.len() {
+        let b = plain::put_plain(out, next, ys, i);
+        next = b.next;
+        i = b.i;
+        if i == ys.len() {
+            return next;
+        }
         next = sink::put_char(out, next, bare(ys[i]));
         i = i + 1;
     }

@@ -1,8 +1,10 @@
--- Each turn adds one character.
+-- Each turn adds the characters that are plain and one that is not.
+use mathlib.Core.Path.{_∙_}
 use Prim.Native.Nat.{_-_}
+use native.Mathlib.Omega.{arith}
 use lib.ListN.{length}
 use Rattle.chars.specs.Written.{written}
-use Rattle.writing.proofs.Laws.Each.{Each, each-start, each-next, each-end, text-each}
+use Rattle.writing.proofs.Laws.Each.{Each, each-start, each-next, each-plain, each-end, text-plain, text-each}
 use borrow.Author.Needs.{needs}
 use Rattle.writing.proofs.sink.put_text.Statement.{statement}
 use Rattle.writing.proofs.sink.put_text.Tie as tie
@@ -13,14 +15,34 @@ Inv-loop out₀ at cs next₀ i₀ out next i = Each written cs i out₀ next₀
 abbrev μ-loop : tie.MeasureT-loop
 μ-loop out₀ at cs next₀ i₀ out next i = length cs - i
 
+-- the turn in which plain characters were put
+abbrev turn : tie.After-put-plain Inv-loop μ-loop → tie.At-loop Inv-loop μ-loop
+turn d = d .before .before .before
+
 loop-holds : tie.Need-loop-holds Inv-loop μ-loop
-loop-holds c = each-start written _ _ _
+loop-holds c = each-start _ _ _ _
+
+put-plain-requires : tie.Need-put-plain-requires Inv-loop μ-loop
+put-plain-requires c κs = search needs
+
+same-length : tie.Need-same-length Inv-loop μ-loop
+same-length c =
+    let d = c .before .before .before in
+    d .put-plain .ensures .adds .size ∙ turn d .loop .inv .adds .size
+
+returns : tie.Need-returns Inv-loop μ-loop
+returns c =
+    let d = c .before .before .before in
+    each-end _ (each-plain _ (turn d .loop .inv) text-plain (d .put-plain .ensures)) (omega (arith, c .if1 .taken))
+    (text-each _)
 
 mul-put-char : tie.Need-mul-put-char Inv-loop μ-loop
 mul-put-char c = search needs
 
 shared-slice-read-put-char : tie.Need-shared-slice-read-put-char Inv-loop μ-loop
-shared-slice-read-put-char c = search needs
+shared-slice-read-put-char c =
+    let inside = c .before .before .before .before .before .put-plain .ensures .inside in
+    omega (arith, inside, c .before .before .if1 .left)
 
 put-char-requires : tie.Need-put-char-requires Inv-loop μ-loop
 put-char-requires c κs = search needs
@@ -29,20 +51,22 @@ add-i : tie.Need-add-i Inv-loop μ-loop
 add-i c = search needs
 
 loop-less : tie.Need-loop-less Inv-loop μ-loop
-loop-less c = search needs
+loop-less c =
+    let d = c .before .before .before .before .before .before .before .before in
+    omega (arith, d .put-plain .ensures .order, d .before .before .loop-test .taken)
 
 loop-again : tie.Need-loop-again Inv-loop μ-loop
 loop-again c =
-    let at-put-char = c .before .before in
-    let at-loop-test = at-put-char .before .before .before in
-    let at-loop = at-loop-test .before in
-    each-next written (at-loop .loop .inv) (at-loop-test .loop-test .taken) (at-put-char .put-char .ensures)
+    let d = c .before .before .before .before .before .before .before .before in
+    let inside = d .put-plain .ensures .inside in
+    each-next _ (each-plain _ (turn d .loop .inv) text-plain (d .put-plain .ensures))
+    (omega (arith, inside, c .before .before .before .before .before .if1 .left)) (c .before .before .put-char .ensures)
 
-same-length : tie.Need-same-length Inv-loop μ-loop
-same-length c = c .before .loop .inv .adds .size
+same-length-2 : tie.Need-same-length-2 Inv-loop μ-loop
+same-length-2 c = c .before .loop .inv .adds .size
 
-returns : tie.Need-returns Inv-loop μ-loop
-returns c = each-end written (c .before .loop .inv) (c .loop-test .left) (text-each _)
+returns-2 : tie.Need-returns-2 Inv-loop μ-loop
+returns-2 c = each-end _ (c .before .loop .inv) (c .loop-test .left) (text-each _)
 
 pub put-text-spec : {M : Type 1} → statement M
 put-text-spec =
@@ -51,11 +75,14 @@ put-text-spec =
     Inv-loop
     μ-loop
     loop-holds
+    put-plain-requires
+    same-length
+    returns
     mul-put-char
     shared-slice-read-put-char
     put-char-requires
     add-i
     loop-less
     loop-again
-    same-length
-    returns)
+    same-length-2
+    returns-2)

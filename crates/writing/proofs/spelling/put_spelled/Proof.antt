@@ -1,7 +1,10 @@
--- Each turn adds one symbol.
+-- Each turn adds the symbols that are plain and one that is not.
+use mathlib.Core.Path.{_∙_}
 use Prim.Native.Nat.{_-_}
+use native.Mathlib.Omega.{arith}
 use lib.ListN.{length}
-use Rattle.writing.proofs.Laws.Each.{symbol, Each, each-start, each-next, each-end, spelled-each}
+use Rattle.writing.proofs.Laws.Each.{symbol, Each, each-start, each-next, each-plain, each-end, spelled-plain}
+use Rattle.writing.proofs.Laws.Each.{spelled-each}
 use borrow.Author.Needs.{needs}
 use Rattle.writing.proofs.spelling.put_spelled.Statement.{statement}
 use Rattle.writing.proofs.spelling.put_spelled.Tie as tie
@@ -12,14 +15,34 @@ Inv-loop out₀ at wild ys next₀ i₀ out next i = Each (symbol wild) ys i out
 abbrev μ-loop : tie.MeasureT-loop
 μ-loop out₀ at wild ys next₀ i₀ out next i = length ys - i
 
+-- the turn in which plain characters were put
+abbrev turn : tie.After-put-plain Inv-loop μ-loop → tie.At-loop Inv-loop μ-loop
+turn d = d .before .before .before
+
 loop-holds : tie.Need-loop-holds Inv-loop μ-loop
 loop-holds c = each-start _ _ _ _
+
+put-plain-requires : tie.Need-put-plain-requires Inv-loop μ-loop
+put-plain-requires c κs = search needs
+
+same-length : tie.Need-same-length Inv-loop μ-loop
+same-length c =
+    let d = c .before .before .before in
+    d .put-plain .ensures .adds .size ∙ turn d .loop .inv .adds .size
+
+returns : tie.Need-returns Inv-loop μ-loop
+returns c =
+    let d = c .before .before .before in
+    each-end _ (each-plain _ (turn d .loop .inv) (spelled-plain _) (d .put-plain .ensures)) (omega (arith, c .if1 .taken))
+    (spelled-each _ _)
 
 mul-put-symbol : tie.Need-mul-put-symbol Inv-loop μ-loop
 mul-put-symbol c = search needs
 
 shared-slice-read-put-symbol : tie.Need-shared-slice-read-put-symbol Inv-loop μ-loop
-shared-slice-read-put-symbol c = search needs
+shared-slice-read-put-symbol c =
+    let inside = c .before .before .before .before .before .put-plain .ensures .inside in
+    omega (arith, inside, c .before .before .if1 .left)
 
 put-symbol-requires : tie.Need-put-symbol-requires Inv-loop μ-loop
 put-symbol-requires c κs = search needs
@@ -28,20 +51,22 @@ add-i : tie.Need-add-i Inv-loop μ-loop
 add-i c = search needs
 
 loop-less : tie.Need-loop-less Inv-loop μ-loop
-loop-less c = search needs
+loop-less c =
+    let d = c .before .before .before .before .before .before .before .before in
+    omega (arith, d .put-plain .ensures .order, d .before .before .loop-test .taken)
 
 loop-again : tie.Need-loop-again Inv-loop μ-loop
 loop-again c =
-    let at-put-symbol = c .before .before in
-    let at-loop-test = at-put-symbol .before .before .before in
-    let at-loop = at-loop-test .before in
-    each-next _ (at-loop .loop .inv) (at-loop-test .loop-test .taken) (at-put-symbol .put-symbol .ensures)
+    let d = c .before .before .before .before .before .before .before .before in
+    let inside = d .put-plain .ensures .inside in
+    each-next _ (each-plain _ (turn d .loop .inv) (spelled-plain _) (d .put-plain .ensures))
+    (omega (arith, inside, c .before .before .before .before .before .if1 .left)) (c .before .before .put-symbol .ensures)
 
-same-length : tie.Need-same-length Inv-loop μ-loop
-same-length c = c .before .loop .inv .adds .size
+same-length-2 : tie.Need-same-length-2 Inv-loop μ-loop
+same-length-2 c = c .before .loop .inv .adds .size
 
-returns : tie.Need-returns Inv-loop μ-loop
-returns c = each-end _ (c .before .loop .inv) (c .loop-test .left) (spelled-each _ _)
+returns-2 : tie.Need-returns-2 Inv-loop μ-loop
+returns-2 c = each-end _ (c .before .loop .inv) (c .loop-test .left) (spelled-each _ _)
 
 pub put-spelled-spec : {M : Type 1} → statement M
 put-spelled-spec =
@@ -50,11 +75,14 @@ put-spelled-spec =
     Inv-loop
     μ-loop
     loop-holds
+    put-plain-requires
+    same-length
+    returns
     mul-put-symbol
     shared-slice-read-put-symbol
     put-symbol-requires
     add-i
     loop-less
     loop-again
-    same-length
-    returns)
+    same-length-2
+    returns-2)
