@@ -1,5 +1,6 @@
 -- A walk over characters, each of which adds its piece behind those before it.
 --   Each f xs i ..    the first i of xs are added by their pieces;  each-start, each-next, each-end
+--   each-plain        plain characters together, whatever f is: text-plain, spelled-plain, bare-plain
 --   bytes-each, text-each, spelled-each, bare-each    what the pieces of all come to
 use mathlib.Core.Path.{_≡_, refl, sym, ap, _∙_}
 use mathlib.Core.Bool.{Bool}

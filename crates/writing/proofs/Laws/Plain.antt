@@ -70,6 +70,9 @@ part-none ys i =
     let e : i + 0 ≡ i = omega arith in
     ap (part ys i) e ∙ part-empty ys i
 
+plain-one : (ys : List ℕ) (i : ℕ) → i < length ys → Plain (getD ys i 0) → AllPlain (part ys i (i + 1))
+plain-one ys i h q = subst AllPlain (sym (part-one ys i h)) (more q none)
+
 module _ (ys : List ℕ) (i : ℕ) where
   pub plain-none : AllPlain (part ys i (i + 0))
   plain-none = subst AllPlain (sym (part-none ys i)) none
@@ -80,7 +83,7 @@ module _ (ys : List ℕ) (i : ℕ) where
 
   pub plain-next : (n : ℕ) → i + n < length ys → AllPlain (part ys i (i + n)) → Plain (getD ys (i + n) 0)
       → AllPlain (part ys i (i + (n + 1)))
-  plain-next n h p q = plain-then n 1 p (subst AllPlain (sym (part-one ys (i + n) h)) (more q none))
+  plain-next n h p q = plain-then n 1 p (plain-one ys (i + n) h q)
 
   pub plain-at : (n j : ℕ) → i + n ≤ length ys → AllPlain (part ys i (i + n)) → j < n → Plain (getD ys (i + j) 0)
   plain-at n j h p k =
@@ -134,8 +137,7 @@ module _ {ys out mid : List ℕ} {i n at : ℕ} (p : PlainPut ys i n out at mid)
   pub put-next : i + n < length ys → at + n < length mid → Plain (getD ys (i + n) 0)
       → PlainPut ys i (n + 1) out at (set mid (at + n) (getD ys (i + n) 0))
   put-next h g q =
-      put-then 1 (omega arith) (omega arith) (subst AllPlain (sym (part-one ys (i + n) h)) (more q none))
-      (byte-put ys i n h g)
+      put-then 1 (omega arith) (omega arith) (plain-one ys (i + n) h q) (byte-put ys i n h g)
 
 -- ---- up to where
 

@@ -23,6 +23,11 @@ turn d = d .before .before .before .before .before .before
 room : (l : tie.At-loop Inv-loop μ-loop) → l .before .before .before .args .at + l .loop .n ≤ length (l .loop .out)
 room l = omega (arith, l .loop .inv .room, l .loop .inv .adds .size)
 
+-- eight characters are left where eight were put
+left : (d : tie.After-put-eight Inv-loop μ-loop)
+    → turn d .before .before .before .args .i + turn d .loop .n + 8 ≤ length (turn d .before .before .before .args .ys .now)
+left d = omega (arith, d .before .before .before .before .before .loop-test .taken, turn d .loop .inv .inside)
+
 loop-holds : tie.Need-loop-holds Inv-loop μ-loop
 loop-holds c =
     let start = c .before .before in
@@ -73,23 +78,17 @@ put-eight-requires c κs =
     )
 
 add-n : tie.Need-add-n Inv-loop μ-loop
-add-n c =
-    let at-put = c .before .before in
-    let l = turn at-put in
-    omega (arith, at-put .before .before .before .before .before .loop-test .taken, l .loop .inv .inside)
+add-n c = omega (arith, left (c .before .before))
 
 loop-less : tie.Need-loop-less Inv-loop μ-loop
-loop-less c =
-    let at-put = c .before .before in
-    let l = turn at-put in
-    omega (arith, at-put .before .before .before .before .before .loop-test .taken, l .loop .inv .inside)
+loop-less c = omega (arith, left (c .before .before))
 
 loop-again : tie.Need-loop-again Inv-loop μ-loop
 loop-again c =
     let at-put = c .before .before in
     let l = turn at-put in
     put-then (l .loop .inv) 8
-    (omega (arith, at-put .before .before .before .before .before .loop-test .taken, l .loop .inv .inside))
+    (left at-put)
     (omega (arith, at-put .before .before .before .before .if1 .left, room l))
     (at-put .before .before .before .plain-eight .ensures (not-false _ (at-put .before .before .if2 .left)))
     (at-put .put-eight .ensures)
