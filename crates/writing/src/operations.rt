@@ -18,6 +18,9 @@ use policy::reading;
 use policy::reading::Read;
 use policy::refusals::Refusal;
 
+// A policy that is held in so few numbers is seldom longer than 512 bytes in its written form.
+const FEW: usize = 256;
+
 // So many bytes were written; or a refusal, and nothing was.
 pub enum Answer {
     Written(usize),
@@ -36,6 +39,18 @@ fn copy(bs: &[u8], n: usize, out: &mut [u8])
     }
 }
 
+// The n bytes that a room shows, which it has, if they are not too many for what is lent.
+fn given(room: &[u8], n: usize, out: &mut [u8]) -> Answer
+    requires { ⌜ (n ≤ length (now room)) × (length (now room) ≤ resultBytes) ⌝ }
+    ensures { λ r. ⌜ ((ws : List ℕ) → Shows ws n (now (room .entry)) → (toldAnswer r, now (out .exit)) ≡ handed ws (now (out .entry))) ⌝ }
+{
+    if n > out.len() {
+        return Answer::Refused(Refusal::OutputLength);
+    }
+    copy(room, n, out);
+    Answer::Written(n)
+}
+
 // The n bytes that a room shows, if they are not too many for a result and for what is lent.
 pub fn deliver(room: &[u8], n: usize, out: &mut [u8]) -> Answer
     requires { ⌜ length (now room) ≡ resultBytes ⌝ }
@@ -44,21 +59,32 @@ pub fn deliver(room: &[u8], n: usize, out: &mut [u8]) -> Answer
     if n > limits::RESULT {
         return Answer::Refused(Refusal::ResultLength);
     }
-    if n > out.len() {
-        return Answer::Refused(Refusal::OutputLength);
-    }
-    copy(room, n, out);
-    Answer::Written(n)
+    given(room, n, out)
 }
 
 // A held policy, if it is not too long for a result and for what is lent.
-pub fn hand(run: &[u32], out: &mut [u8]) -> Answer
+fn hand_any(run: &[u32], out: &mut [u8]) -> Answer
     requires { ⌜ Lying held (now run) 0 ⌝ }
     ensures { λ r. ⌜ ((x : Policy) → Lies (now (run .entry)) 0 (held x) → (toldAnswer r, now (out .exit)) ≡ handed (writtenPolicy x) (now (out .entry))) ⌝ }
 {
     let mut room = [0u8; 6144];
     let n = policies::put_policy(run, &mut room);
     deliver(&room, n, out)
+}
+
+// The same for one that takes so many numbers: where they are few, a small room is tried first, which is cleared sooner.
+fn hand(run: &[u32], numbers: usize, out: &mut [u8]) -> Answer
+    requires { ⌜ Lying held (now run) 0 ⌝ }
+    ensures { λ r. ⌜ ((x : Policy) → Lies (now (run .entry)) 0 (held x) → (toldAnswer r, now (out .exit)) ≡ handed (writtenPolicy x) (now (out .entry))) ⌝ }
+{
+    if numbers <= FEW {
+        let mut room = [0u8; 512];
+        let n = policies::put_policy(run, &mut room);
+        if n <= room.len() {
+            return given(&room, n, out);
+        }
+    }
+    hand_any(run, out)
 }
 
 // Restate, with a run lent for the policy.
@@ -68,7 +94,7 @@ fn restate_lent(policy: &[u8], out: &mut [u8], run: &mut [u32]) -> Answer
 {
     let h = reading::read_policy(policy, run);
     match h {
-        Read::Held(_) => hand(run, out),
+        Read::Held(n) => hand(run, n, out),
         Read::Refused(f) => Answer::Refused(f),
     }
 }

@@ -67,12 +67,12 @@ module _ (bs out : List ℕ) where
   handed-whole h k = rw (le-ltb resultBytes (length bs) h, le-ltb (length out) (length bs) k) refl
 
 -- what stands in a room that took the bytes
-pub shows-taken : {w room after : List ℕ} {n : ℕ} → Adds w room 0 n after → length room ≡ resultBytes → Shows w n after
+pub shows-taken : {w room after : List ℕ} {n : ℕ} → Adds w room 0 n after → length room ≤ resultBytes → Shows w n after
 shows-taken {room = room} a size = a .adds [] (shows-none room size)
 
 module _ {w room : List ℕ} {n : ℕ} (out : List ℕ) (shows : Shows w n room) where
-  pub hand-long : resultBytes < n → (refused ResultLength, out) ≡ handed w out
-  hand-long h = handed-long w out (shows-over shows h)
+  pub hand-long : length room ≡ resultBytes → resultBytes < n → (refused ResultLength, out) ≡ handed w out
+  hand-long size h = handed-long w out (shows-over size shows h)
 
   module _ (h : n ≤ resultBytes) where
     abbrev length-is : length w ≡ n

@@ -15,7 +15,7 @@ use Rattle.chars.proofs.Laws.Putting.{put-fit, put-none}
 use Rattle.syntax.specs.Limits.{resultBytes}
 use Rattle.writing.specs.Showing.{Shows, whole, over, Adds}
 
-pub shows-none : (out : List ℕ) → length out ≡ resultBytes → Shows [] 0 out
+pub shows-none : (out : List ℕ) → length out ≤ resultBytes → Shows [] 0 out
 shows-none out e = whole e out refl refl
 
 -- ---- one thing behind another
@@ -59,7 +59,7 @@ put-now {ws} {out} {at} bs (whole n rest e p) h =
     let before : take at out ≡ ws = ap (λ (k : ℕ). take k out) p ∙ ap (take (length ws)) e ∙ take-append-seam ws rest in
     let is : take at out ++ bs ++ behind ≡ (ws ++ bs) ++ behind =
     ap (λ (l : List ℕ). l ++ bs ++ behind) before in
-    whole (size ∙ n) behind is (omega (arith, p, length-append ws bs))
+    whole (omega (arith, size, n)) behind is (omega (arith, p, length-append ws bs))
   where
     size : length (take at out ++ bs ++ drop (at + length bs) out) ≡ length out
     size = ap length (sym (sets-eq bs out at h)) ∙ length-sets out at bs
@@ -107,6 +107,7 @@ shows-end {ws} {out} {at} (whole n rest e p) h =
     (sym p, ap (λ (k : ℕ). take k out) p ∙ ap (take (length ws)) e ∙ take-append-seam ws rest)
 shows-end {at = at} (over n m p) h = absurd (omega (arith, p, h))
 
-pub shows-over : {ws out : List ℕ} {at : ℕ} → Shows ws at out → resultBytes < at → resultBytes < length ws
-shows-over {ws} {out} (whole n rest e p) h = omega (arith, p, h)
-shows-over (over n m p) h = m
+pub shows-over : {ws out : List ℕ} {at : ℕ} → length out ≡ resultBytes → Shows ws at out → resultBytes < at
+    → resultBytes < length ws
+shows-over size (whole n rest e p) h = omega (arith, p, h)
+shows-over size (over n m p) h = omega (arith, size, m)

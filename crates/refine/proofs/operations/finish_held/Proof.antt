@@ -90,7 +90,7 @@ returns-3 c =
     let f = sym (at-holds-room .holds-room .ensures p l s) ∙ told in
     finishes f (sym (at-some-allowed .some-allowed .ensures p l) ∙ allows) (c .before .before .deliver .ensures _
     (at-put-refined .put-refined .ensures p l (policy-writ p (start .args .room .now) s (start .pre .1) f) .adds _
-    (shows-none _ refl)))
+    (shows-none _ (omega arith))))
 
 pub finish-held-spec : {M : Type 1} → statement M
 finish-held-spec =

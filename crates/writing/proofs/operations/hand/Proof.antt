@@ -1,5 +1,5 @@
--- The room shows the written form in the end, or that it was too much.
-use mathlib.Core.Path.{refl}
+-- A small room that took the whole shows the same as a large one.
+use native.Mathlib.Omega.{arith}
 use Rattle.writing.proofs.Laws.Handing.{shows-taken}
 use borrow.Author.Needs.{needs}
 use Rattle.writing.proofs.operations.hand.Statement.{statement}
@@ -11,20 +11,29 @@ slice-aggregate-put-policy c = search needs
 put-policy-requires : tie.Need-put-policy-requires
 put-policy-requires c κs = search needs
 
-slice-aggregate-deliver : tie.Need-slice-aggregate-deliver
-slice-aggregate-deliver c = search needs
+slice-aggregate-given : tie.Need-slice-aggregate-given
+slice-aggregate-given c = search needs
 
-deliver-requires : tie.Need-deliver-requires
-deliver-requires c κs = search needs
+given-requires : tie.Need-given-requires
+given-requires c κs = search needs
 
 same-length : tie.Need-same-length
 same-length c = search needs
 
 returns : tie.Need-returns
 returns c =
-    let at-deliver = c .before .before in
-    let at-put-policy = at-deliver .before .before .before .before in
-    λ x l. at-deliver .deliver .ensures _ (shows-taken (at-put-policy .put-policy .ensures x l) refl)
+    let at-given = c .before .before in
+    let at-put = at-given .before .before .before .before .before in
+    λ x l. at-given .given .ensures _ (shows-taken (at-put .put-policy .ensures x l) (omega arith))
+
+hand-any-requires : tie.Need-hand-any-requires
+hand-any-requires c κs = search needs
+
+same-length-2 : tie.Need-same-length-2
+same-length-2 c = search needs
+
+returns-2 : tie.Need-returns-2
+returns-2 c = search needs
 
 pub hand-spec : {M : Type 1} → statement M
 hand-spec =
@@ -32,7 +41,10 @@ hand-spec =
     (tie.spec
     slice-aggregate-put-policy
     put-policy-requires
-    slice-aggregate-deliver
-    deliver-requires
+    slice-aggregate-given
+    given-requires
     same-length
-    returns)
+    returns
+    hand-any-requires
+    same-length-2
+    returns-2)
