@@ -30,7 +30,7 @@ pub fn logs() -> Vec<Log> {
     let mut of_large = |_| large_request(&statements, &mut random);
     let of_large = (0..64).map(&mut of_large).collect();
     let mut random = Random::new(8);
-    let of_small = (0..64)
+    let of_small: Vec<Vec<u8>> = (0..64)
         .map(|number| small_request(number, &mut random))
         .collect();
     let log = |name, policy, records| Log {
@@ -38,10 +38,22 @@ pub fn logs() -> Vec<Log> {
         policy,
         records,
     };
+    let of_sorted = of_small.iter().map(|record| sorted(record));
+    let of_sorted = of_sorted.collect();
+    let of_tiny = of_small.clone();
     vec![
         log("policy-2k", small_policy(), of_small),
         log("policy-16k", large, of_large),
+        log("sorted-1k", sorted(&small_policy()), of_sorted),
+        log("tiny", TINY_POLICY.as_bytes().to_vec(), of_tiny),
     ]
+}
+
+/// The same without white space, its members sorted by their names: as many
+/// programs write JSON, and in another order than the layouts'.
+fn sorted(text: &[u8]) -> Vec<u8> {
+    let value: serde_json::Value = serde_json::from_slice(text).expect("JSON");
+    serde_json::to_vec(&value).expect("what was read is written")
 }
 
 pub fn small_policy() -> Vec<u8> {
@@ -215,6 +227,10 @@ const ACTIONS: [&str; 6] = [
     "kms:Decrypt",
     "dynamodb:BatchGetItem",
 ];
+
+/// As short as a policy may be, nearly: what is left is what every call costs.
+const TINY_POLICY: &str =
+    r#"{"Version":"2012-10-17","Statement":[{"Effect":"Allow","Action":"*","Resource":"*"}]}"#;
 
 /// As people write them: indented, with short names and few long texts.
 const SMALL_POLICY: &str = r#"{
