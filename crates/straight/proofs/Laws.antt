@@ -10,6 +10,7 @@ pub mod Going
 pub mod Lists
 pub mod Differing
 pub mod Entries
+pub mod Numbers
 pub mod Rows
 pub mod Conditions
 pub mod AsTexts

@@ -18,6 +18,7 @@ use syntax::numbers;
 use syntax::numbers::Number;
 use syntax::symbols;
 use syntax::symbols::Converted;
+use text::verdict::Part;
 
 // More entries than a run has numbers are not counted.
 const MOST: usize = 16384;
@@ -100,7 +101,7 @@ fn resource(s: &[u8], v: usize, run: &mut [u32], at: usize) -> Ended
 }
 
 // A number that is written as a string.
-fn number(s: &[u8], v: usize, run: &mut [u32], at: usize) -> Ended
+fn quoted_number(s: &[u8], v: usize, run: &mut [u32], at: usize) -> Ended
     requires { ⌜ Roomy (now run) at 0 ⌝ }
     ensures { λ r. ⌜ Takes heldNumber numberOfJson 0 (now (s .entry)) (now (run .entry)) (now (run .exit)) v at r ⌝ }
 {
@@ -119,6 +120,45 @@ fn number(s: &[u8], v: usize, run: &mut [u32], at: usize) -> Ended
     Ended::Past {
         past: holding::put_number(run, at, n),
         end: end,
+    }
+}
+
+// A number that stands as a JSON number.
+fn plain_number(s: &[u8], v: usize, run: &mut [u32], at: usize) -> Ended
+    requires { ⌜ Roomy (now run) at 0 ⌝ }
+    ensures { λ r. ⌜ Takes heldNumber numberOfJson 0 (now (s .entry)) (now (run .entry)) (now (run .exit)) v at r ⌝ }
+{
+    if s.len() <= v {
+        return Ended::Wrong;
+    }
+    let r = text::numbers::unsigned(s, v);
+    let Part::Past(e) = r else {
+        return Ended::Wrong;
+    };
+    let k = numbers::number_spelt(&s[v..e]);
+    let Number::Is(n) = k else {
+        return Ended::Wrong;
+    };
+    if run.len() - at < 2 {
+        return Ended::Wrong;
+    }
+    Ended::Past {
+        past: holding::put_number(run, at, n),
+        end: e,
+    }
+}
+
+// A number, told by its first byte.
+fn number(s: &[u8], v: usize, run: &mut [u32], at: usize) -> Ended
+    requires { ⌜ Roomy (now run) at 0 ⌝ }
+    ensures { λ r. ⌜ Takes heldNumber numberOfJson 0 (now (s .entry)) (now (run .entry)) (now (run .exit)) v at r ⌝ }
+{
+    if s.len() <= v {
+        return Ended::Wrong;
+    }
+    match s[v] {
+        48..=57 => plain_number(s, v, run, at),
+        _ => quoted_number(s, v, run, at),
     }
 }
 

@@ -7,8 +7,8 @@ use Rattle.straight.proofs.Laws.Taking.{takes-past}
 use Rattle.straight.proofs.Laws.Texts.{text-first, text-within}
 use Rattle.straight.proofs.Laws.Entries.{number-bound, number-taken}
 use borrow.Author.Needs.{needs}
-use Rattle.straight.proofs.entries.number.Statement.{statement}
-use Rattle.straight.proofs.entries.number.Tie as tie
+use Rattle.straight.proofs.entries.quoted_number.Statement.{statement}
+use Rattle.straight.proofs.entries.quoted_number.Tie as tie
 
 -- the call, and where the function starts
 abbrev call : tie.After-h → tie.After-string
@@ -110,8 +110,8 @@ returns-4 c =
     number-taken (start (call at-h) .pre) (held at-h) (spelt .number-in .ensures) (known .k .given .1)
     (c .before .before .put-number .ensures)
 
-pub number-spec : {M : Type 1} → statement M
-number-spec =
+pub quoted-number-spec : {M : Type 1} → statement M
+quoted-number-spec =
     tie.close
     (tie.spec
     string-requires
