@@ -11,7 +11,8 @@ use policy::reading;
 use policy::reading::Read;
 use policy::refusals::Refusal;
 
-// A record of at most so many bytes is held in a run of twice as many numbers and some more, and a longer one in a run of 8,448.
+// A record of at most so many bytes is held in a run of twice as many numbers and some more, a longer one in one of
+// 8,448.
 pub const TERSE: usize = 512;
 
 pub const BRIEF: usize = 1024;

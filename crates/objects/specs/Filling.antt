@@ -1,9 +1,9 @@
 -- Filling: parts that are known to lie in a run, and what stands for a member that is absent.
 --   Ready h x run m k     what x reads lies in the run, as h holds it, as the part of turn k
---   Filled xs ..          the part of turn k was there, or is absent and the numbers xs stand for it; or there is no room
+--   Filled xs ..          the part of turn k is there, or the numbers xs stand for an absent one; or there is no room
 use mathlib.Core.Path.{_≡_}
 use mathlib.Core.List.{List}
-use Prim.Native.Nat.{ℕ, _+_, _≤_, _<_}
+use Prim.Native.Nat.{ℕ, _+_, _≤_}
 use lib.ListN.{length, getD, set}
 use Rattle.text.specs.Json.{Json}
 use Rattle.syntax.specs.Forms.{Reading, read}

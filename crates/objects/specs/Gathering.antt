@@ -1,6 +1,7 @@
--- Gathering: the members of an object held in a run as they stand, in any order; where each lies is noted by the turn of
--- its name among the words of a layout.
---   Kinded l            the words of an object, and how each word's value is held: as a part of the run, or told by a number
+-- Gathering: the members of an object held in a run as they stand, in any order; where each lies is noted by the turn
+-- of its name among the words of a layout.
+--   Kinded              the words of an object, and how each word's value is held: as a part of the run, or told by a
+--                       number
 --   Found h run p t ..  a value t held so, before place p of the run
 --   Names ws s i r      a member whose name stands at i is word r's
 --   Parts l s ..        a value held as that of turn k

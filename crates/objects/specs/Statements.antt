@@ -1,5 +1,5 @@
 -- Statements: a statement from its members, in whatever order they stand.
---   statements           its words, those whose values lie in the run first and in the order in which a statement is held
+--   statements            its words: first those whose values lie in the run, in the order in which a statement is held
 --   Slots, statementFrom  its members by name, and the statement that they are
 --   Sorted run m at x     where the values of the members x lie
 use mathlib.Core.Path.{_≡_}

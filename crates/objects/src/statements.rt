@@ -1,8 +1,6 @@
 // A statement: its members in any order.
-ghost use mathlib.Core.Path.{_≡_};
-ghost use mathlib.Core.List.{[], _∷_};
-ghost use Prim.Native.Nat.{ℕ, _+_, _≤_};
-ghost use lib.ListN.{length, getD};
+ghost use Prim.Native.Nat.{_+_, _≤_};
+ghost use lib.ListN.{length};
 ghost use Rattle.syntax.specs.PolicyLayout.{statementOf, conditionOf};
 ghost use Rattle.held.specs.Held.{heldList, heldRow, heldStatement};
 ghost use Rattle.parts.specs.Room.{Roomy};

@@ -14,8 +14,8 @@ use text::scan;
 use text::verdict::Verdict;
 use text::walk;
 
-// A policy text of at most so many bytes is held in a run of twice as many numbers, and a longer one in a run of 16,384:
-// to make a run costs by its length, and most texts are short.
+// A policy text of at most so many bytes is held in a run of twice as many numbers, and a longer one in one of 16,384: to
+// make a run costs by its length, and most texts are short.
 pub const TINY: usize = 512;
 
 pub const SMALL: usize = 1024;

@@ -4,14 +4,14 @@
 --   filled-other             the parts of other turns stay
 --   ready-spanned            parts that are ready may be settled
 use mathlib.Core.Path.{_≡_, refl, sym, ap, _∙_, subst}
-use mathlib.Core.List.{List, [], _∷_, _++_, append-assoc}
+use mathlib.Core.List.{List, [], _∷_}
 use Prim.Native.Nat.{ℕ, _+_, _≤_, _<_}
 use native.Mathlib.Omega.{arith}
 use lib.ListN.{length, getD, set, take, length-set}
 use lib.Seq.{getD-set-same, getD-set-other}
 use Rattle.text.specs.Json.{Json}
 use Rattle.syntax.specs.Forms.{Reading, read}
-use Rattle.syntax.specs.Members.{Slot, none, many, one, then, required, optional}
+use Rattle.syntax.specs.Members.{Slot, none, many, one, required, optional}
 use Rattle.parts.specs.Holding.{Extends, Kept}
 use Rattle.parts.specs.declared.holding.Ended.{Ended}
 use Rattle.parts.specs.declared.holding.Ended.the-variants as N
@@ -21,9 +21,10 @@ use Rattle.parts.proofs.Laws.Extends.{extends-none, extends-front, extends-kept
 use Rattle.parts.proofs.Laws.Fits.{then-inv}
 use Rattle.parts.proofs.Laws.Formed.{then-read}
 use Rattle.straight.specs.Taking.{Taken, Takes}
-use Rattle.objects.specs.Telling.{Told, TellsTo}
+use Rattle.objects.specs.Telling.{TellsTo}
 use Rattle.objects.specs.Spans.{fromOf, toOf, behind, piece, Span}
-use Rattle.objects.specs.Gathering.{How, laid, told, Kinded, Laying, Found, SlotFound, PartHeld, Parts, laidAs, toldAs}
+use Rattle.objects.specs.Gathering.{How, laid, told, Kinded, Laying, Found, SlotFound, PartHeld, Parts}
+use Rattle.objects.specs.Gathering.{laidAs, toldAs}
 use Rattle.objects.specs.Filling.{numbers, Ready, noted, Filled, there, absent, no-room}
 use Rattle.objects.proofs.Laws.Settling.{extends-here, extends-part}
 use Rattle.objects.proofs.Laws.Gathering.{extends-still, slot-still, slot-none}
@@ -130,7 +131,8 @@ module _ (m : List ℕ) (k from to past : ℕ) (size : length m ≡ 12) (o : 0 <
       getD-set-other (set (set m (k + k) from) (k + k + 1) to) 1 (k + k + 1) past 0 (λ e. absurd (omega arith))
       ∙ getD-set-same (set m (k + k) from) (k + k + 1) to 0 (omega (arith, length-set m (k + k) from, size))
 
-  pub noted-other : (j : ℕ) → 1 < j → (j ≡ k + k → ⊥) → (j ≡ k + k + 1 → ⊥) → getD (noted m k from to past) j 0 ≡ getD m j 0
+  pub noted-other : (j : ℕ) → 1 < j → (j ≡ k + k → ⊥) → (j ≡ k + k + 1 → ⊥)
+      → getD (noted m k from to past) j 0 ≡ getD m j 0
   noted-other j l a b =
       getD-set-other (set (set m (k + k) from) (k + k + 1) to) 1 j past 0 (λ e. absurd (omega arith))
       ∙ getD-set-other (set m (k + k) from) (k + k + 1) j to 0 b ∙ getD-set-other m (k + k) j from 0 a

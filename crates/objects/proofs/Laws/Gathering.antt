@@ -1,20 +1,20 @@
--- Members are gathered one by one: whatever follows the place reached, what was passed stands before it, and of each word
--- it is known where its value lies.
+-- Members are gathered one by one: whatever follows the place reached, what was passed stands before it, and of each
+-- word it is known where its value lies.
 --   Proper l           no two words of a layout are alike
 --   Gathering l ..     the members passed so far
 --   gathering-more     one more, and a comma
 --   gathering-end      one more, and the end of the object
 use mathlib.Core.Path.{_≡_, refl, sym, ap, _∙_, subst}
 use mathlib.Core.Bool.{Bool, true, false}
-use mathlib.Core.List.{List, [], _∷_, _++_}
+use mathlib.Core.List.{List, _++_}
 use Prim.Native.Nat.{ℕ, zero, suc, _+_, _-_, _≤_, _<_}
 use native.Mathlib.Omega.{arith}
 use native.Mathlib.Decide.{decLt, ℕ-discrete}
-use lib.ListN.{length, getD, set, length-set, replicate, getD-replicate, length-replicate, List·getD-eq-default}
+use lib.ListN.{length, getD, set, length-set, replicate, getD-replicate, List·getD-eq-default}
 use lib.Seq.{getD-set-same, getD-set-other}
 use Rattle.chars.specs.Decoding.{textOf, sameText}
-use Rattle.text.specs.Json.{Json, Members, no-members, named, depth, depthm, a-value, members, more, Reads}
-use Rattle.syntax.specs.Forms.{Reading, read, both}
+use Rattle.text.specs.Json.{Json, Members, no-members, named, depth, depthm, members, more, Reads}
+use Rattle.syntax.specs.Forms.{both}
 use Rattle.syntax.specs.Members.{Slot, none, many, one, slot, known, isAmong}
 use Rattle.parts.specs.Slots.{wordAt, whichOf, Turn}
 use Rattle.parts.specs.Holding.{Extends, Kept}
@@ -25,13 +25,13 @@ use Rattle.straight.specs.Marks.{Unless, Named, Parted, Closed}
 use Rattle.straight.proofs.Laws.Reads.{reads-inside, reads-later, named-later, parted-later, parted-inside, member-is}
 use Rattle.straight.proofs.Laws.Reads.{object-next, object-last}
 use Rattle.objects.specs.Spans.{fromOf, toOf, behind}
-use Rattle.objects.specs.Gathering.{How, laid, told, Kinded, Laying, Telling, Found, SlotFound, PartHeld}
+use Rattle.objects.specs.Gathering.{How, laid, told, Kinded, Found, SlotFound, PartHeld}
 use Rattle.objects.specs.Gathering.{isNamed, Names, Parts}
 use Rattle.objects.specs.declared.members.Part.{Part}
 use Rattle.objects.specs.declared.members.Part.the-variants as P
 use Rattle.objects.specs.declared.members.Which.{Which}
 use Rattle.objects.specs.declared.members.Which.the-variants as W
-use Rattle.objects.specs.Gathering.{Gathered, Gathers}
+use Rattle.objects.specs.Gathering.{Gathers}
 use Rattle.objects.proofs.Laws.Settling.{kept-less}
 
 -- a place that is one

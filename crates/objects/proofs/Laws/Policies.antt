@@ -9,7 +9,8 @@ use Prim.Native.Nat.{ℕ, _<_}
 use native.Mathlib.Omega.{arith}
 use lib.ListN.{length, set}
 use Rattle.chars.specs.Decoding.{textOf, sameText, meaning, unitsBehind, readOf, sequenceOf, equal}
-use Rattle.text.specs.Json.{Json, null, bool, number, string, list, object, Values, no-more, no-members, named, depth, depthm, Quoted}
+use Rattle.text.specs.Json.{Json, null, bool, number, string, list, object, Values, no-more, no-members, named, depth}
+use Rattle.text.specs.Json.{depthm, Quoted}
 use Rattle.text.specs.Json.{a-string}
 use Rattle.syntax.specs.Policy.{Statement}
 use Rattle.syntax.specs.Forms.{Reading, read}

@@ -7,14 +7,14 @@ use native.Mathlib.Omega.{arith}
 use lib.ListN.{length, getD}
 use Rattle.chars.specs.Base.{pick}
 use Rattle.chars.specs.Decoding.{textOf, sameText, meaning, unitsBehind, readOf, sequenceOf, equal}
-use Rattle.text.specs.Json.{object, Members, depth, a-value, Reads}
+use Rattle.text.specs.Json.{object, Members, depth}
 use Rattle.syntax.specs.Forms.{wrong}
 use Rattle.syntax.specs.Words.{actionNamesWord, resourceArnsWord, contextEntriesWord}
 use Rattle.syntax.specs.Members.{required, optional, slot, known}
 use Rattle.syntax.specs.RecordLayout.{onlyOne, actionNameOf, resourceArnOf, contextsOf, requestOf}
 use Rattle.held.specs.Held.{heldText, heldList, heldEach, heldContext, heldRequest}
 use Rattle.parts.specs.Slots.{wordAt, whichOf, Turn}
-use Rattle.parts.specs.Holding.{Extends, Laid, Kept}
+use Rattle.parts.specs.Holding.{Extends, Laid}
 use Rattle.parts.specs.declared.holding.Ended.{Ended}
 use Rattle.parts.proofs.Laws.Slots.{differs, distinct}
 use Rattle.parts.proofs.Laws.Extends.{extends-after}
@@ -22,7 +22,7 @@ use Rattle.parts.proofs.Laws.Formed.{then-read}
 use Rattle.straight.specs.Marks.{Opened}
 use Rattle.straight.specs.Taking.{Taken, Takes}
 use Rattle.straight.proofs.Laws.Reads.{object-some}
-use Rattle.objects.specs.Spans.{fromOf, toOf, behind, piece, inTurn, Span, Spanned}
+use Rattle.objects.specs.Spans.{toOf, behind, piece, inTurn, Span, Spanned}
 use Rattle.objects.specs.Gathering.{Parts, laidAs, Gathered}
 use Rattle.objects.specs.Filling.{Ready, Filled}
 use Rattle.objects.specs.Records.{recordHow, records, Slots, requestFrom, Sorted}
@@ -73,12 +73,14 @@ module _ (s run run′ : List ℕ) (v at : ℕ) where
   pub resource-part : (r : Ended) → at ≤ length run → Takes heldText (onlyOne resourceArnOf) 1 s run run′ v at r
       → Parts records s run run′ v at 2 (laidAs r at)
   resource-part r low t =
-      takes-part heldText (onlyOne resourceArnOf) (λ x. omega arith) records 2 refl s run run′ v at r (omega arith) low t
+      takes-part heldText (onlyOne resourceArnOf) (λ x. omega arith) records 2 refl s run run′ v at r
+      (omega arith) low t
 
   pub contexts-part : (r : Ended) → at ≤ length run → Takes (heldList heldContext) contextsOf 3 s run run′ v at r
       → Parts records s run run′ v at 3 (laidAs r at)
   contexts-part r low t =
-      takes-part (heldList heldContext) contextsOf (λ x. omega arith) records 3 refl s run run′ v at r (omega arith) low t
+      takes-part (heldList heldContext) contextsOf (λ x. omega arith) records 3 refl s run run′ v at r
+      (omega arith) low t
 
 -- ---- parts in the order of a request
 

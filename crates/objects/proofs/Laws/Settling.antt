@@ -2,13 +2,13 @@
 use mathlib.Core.Path.{_≡_, refl, sym, ap, _∙_, subst}
 use mathlib.Core.Logic.{_⊎_, inl, inr, ⊎-elim}
 use mathlib.Core.List.{List, [], _∷_, _++_, append-assoc}
-use Prim.Native.Nat.{ℕ, suc, _+_, _-_, _≤_, _<_}
+use Prim.Native.Nat.{ℕ, _+_, _-_, _≤_, _<_}
 use native.Mathlib.Omega.{arith}
 use native.Mathlib.Numerals.{add-one}
-use lib.ListN.{length, getD, take, drop, set, length-set}
+use lib.ListN.{length, getD, take, drop, set}
 use lib.Seq.{take-add, take-take, drop-at, length-take-le, getD-take, getD-drop, drop-set-lt, drop-drop}
 use Rattle.chars.specs.Base.{part}
-use Rattle.text.proofs.Laws.Parts.{part-length, part-empty}
+use Rattle.text.proofs.Laws.Parts.{part-length}
 use Rattle.parts.specs.Holding.{Extends, Kept}
 use Rattle.parts.proofs.Laws.Extends.{extends-none, extends-then, extends-after, extends-within, extends-kept}
 use Rattle.straight.proofs.Laws.Strings.{bytes-none, bytes-next}

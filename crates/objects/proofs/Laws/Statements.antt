@@ -6,7 +6,7 @@ use Prim.Native.Nat.{ℕ, zero, suc, _+_, _≤_, _<_}
 use native.Mathlib.Omega.{arith}
 use lib.ListN.{length, getD, set, take, length-set}
 use lib.Seq.{getD-set-same, getD-set-other, take-set-le}
-use Rattle.text.specs.Json.{Json, object, Members, no-members, named, depth, a-value, Reads}
+use Rattle.text.specs.Json.{object, Members, no-members, named, depth, a-value, Reads}
 use Rattle.syntax.specs.Forms.{Reading, read, wrong, either, both}
 use Rattle.syntax.specs.Members.{Slot, none, many, one, oneOrMore, optional, required, isWord, slot, known, isAmong}
 use Rattle.syntax.specs.PolicyLayout.{sidOf, actionOf, resourceOf, conditionOf, effectOf, statementOf, statementIn}
@@ -33,14 +33,16 @@ use Rattle.syntax.specs.Policy.{Effect, Allow, Deny}
 use Rattle.syntax.specs.Words.{allowWord, denyWord, sidWord, effectWord, actionWord, resourceWord, conditionWord}
 use Rattle.held.specs.Held.{effectNumber, heldEach}
 use Rattle.parts.specs.Holding.{Extends, Laid, Kept}
-use Rattle.parts.proofs.Laws.Extends.{extends-none, extends-front, extends-after, extends-kept}
+use Rattle.parts.proofs.Laws.Extends.{extends-none, extends-front, extends-after}
 use Rattle.parts.proofs.Laws.Formed.{then-read}
 use Rattle.objects.specs.Spans.{fromOf, toOf, behind, piece, inTurn, Span, Spanned}
 use Rattle.objects.specs.Gathering.{told, SlotFound, Gathered, Gathers}
 use Rattle.objects.specs.Filling.{Ready, Filled}
-use Rattle.objects.specs.Statements.{statementHow, Slots, statementFrom, Sorted, Begun, labelled, bare, WithSid, there}
+use Rattle.objects.specs.Statements.{statementHow, Slots, statementFrom, Sorted, Begun, labelled, bare}
+use Rattle.objects.specs.Statements.{WithSid, there}
 use Rattle.objects.specs.Statements.{lacking, neither}
-use Rattle.objects.proofs.Laws.Filling.{Whole, filled-whole, filled-other, filled-ready, required-ready, ready-span}
+use Rattle.objects.proofs.Laws.Filling.{Whole, filled-whole, filled-other, filled-ready}
+use Rattle.objects.proofs.Laws.Filling.{required-ready, ready-span}
 use Rattle.objects.proofs.Laws.Filling.{ready-piece, optional-ready}
 use Rattle.objects.proofs.Laws.Settling.{kept-less, extends-here}
 use Rattle.objects.proofs.Laws.Gathering.{Proper, slot-none, extends-still, kept-then}
@@ -87,13 +89,15 @@ module _ (s run run′ : List ℕ) (v at : ℕ) where
 
   pub sid-part : (r : Ended) → at ≤ length run → Takes heldText sidOf 0 s run run′ v at r
       → Parts statements s run run′ v at 1 (laidAs r at)
-  sid-part r low t = takes-part heldText sidOf (λ x. omega arith) statements 1 refl s run run′ v at r (omega arith) low t
+  sid-part r low t =
+      takes-part heldText sidOf (λ x. omega arith) statements 1 refl s run run′ v at r (omega arith) low t
 
   pub action-part : (r : Ended) → at ≤ length run
       → Takes (heldList heldValue) (oneOrMore (entryOf E.Action)) 1 s run run′ v at r
       → Parts statements s run run′ v at 2 (laidAs r at)
   action-part (N.Past p e) low t =
-      takes-part (heldList heldText) (oneOrMore actionOf) (λ x. omega arith) statements 2 refl s run run′ v at (N.Past p e)
+      takes-part (heldList heldText) (oneOrMore actionOf) (λ x. omega arith) statements 2 refl s run run′ v at
+      (N.Past p e)
       (omega arith) low (retaken t (texts-laid actionOf (t .tree) (t .laid)))
   action-part N.Wrong low t = t
 
@@ -108,7 +112,8 @@ module _ (s run run′ : List ℕ) (v at : ℕ) where
   pub condition-part : (r : Ended) → at ≤ length run
       → Takes (heldList heldRow) conditionOf 3 s run run′ v at r → Parts statements s run run′ v at 4 (laidAs r at)
   condition-part r low t =
-      takes-part (heldList heldRow) conditionOf (λ x. omega arith) statements 4 refl s run run′ v at r (omega arith) low t
+      takes-part (heldList heldRow) conditionOf (λ x. omega arith) statements 4 refl s run run′ v at r
+      (omega arith) low t
 
 pub effect-part : (s run : List ℕ) (v at : ℕ) (r : Typed) → at ≤ length run → TellsTo effectNamed s v r
     → Parts statements s run run v at 5 (toldAs r at)
@@ -207,7 +212,8 @@ module _ {run m : List ℕ} {at : ℕ} {x : Slots} (w : Sorted run m at x) (n₁
         }
 
     parts-held : inTurn run₁ m₁ 4 ≡ heldText (sid .thing)
-        ++ (heldList heldText (actions .thing) ++ (heldList heldText (resources .thing) ++ heldList heldRow (rows .thing)))
+        ++ (heldList heldText (actions .thing) ++ (heldList heldText (resources .thing)
+        ++ heldList heldRow (rows .thing)))
     parts-held =
         four-in-turn run₁ m₁ (ready-piece sid (whole .high)) (ready-piece actions (whole .high))
         (ready-piece resources (whole .high)) (ready-piece rows (whole .high))
@@ -335,7 +341,8 @@ module _ {s run run₁ run₂ m m₁ : List ℕ} {i at base : ℕ} (low : at + 2
         → Ready heldText (optional [] sidOf (slot sidWord (gone .all))) run₂ m₁ 1
     sid-there (there a e) z =
         subst (λ (l : List ℕ). Ready heldText (optional [] sidOf (slot sidWord (gone .all))) run₂ l 1) (sym e)
-        (optional-ready heldText sidOf run₂ m 1 [] (slot sidWord (gone .all)) (gone .each 1 (turned 1 (omega arith) (omega arith))) a)
+        (optional-ready heldText sidOf run₂ m 1 [] (slot sidWord (gone .all))
+        (gone .each 1 (turned 1 (omega arith) (omega arith))) a)
     sid-there (lacking a c e) z =
         let x = slot-none run₂ (behind m) (fromOf m 1) (toOf m 1) (statementHow 1) (slot sidWord (gone .all))
         (gone .each 1 (turned 1 (omega arith) (omega arith))) a in

@@ -1,27 +1,22 @@
 -- The operators of a condition: each has rows, none stands twice, their rows follow one another.
 use mathlib.Core.Path.{_≡_, refl, sym, ap, _∙_, subst}
 use mathlib.Core.Bool.{Bool, true, false}
-use mathlib.Core.Logic.{_⊎_, inl, inr}
-use mathlib.Core.List.{List, [], _∷_, _++_, append-assoc}
-use Prim.Native.Nat.{ℕ, zero, suc, _+_, _≤_, _<_}
+use mathlib.Core.List.{List, [], _∷_, _++_}
+use Prim.Native.Nat.{ℕ, _+_, _<_}
 use native.Mathlib.Omega.{arith}
-use native.Mathlib.Decide.{ℕ-discrete}
-use lib.ListN.{length, getD, set, replicate, length-append, length-set}
-use lib.Seq.{getD-set-same, getD-set-other}
-use Rattle.chars.specs.Base.{pick}
+use lib.ListN.{length, set, length-append}
 use Rattle.text.specs.Json.{Json, null, bool, number, string, list, object, Members, no-members, named}
 use Rattle.text.specs.Contents.{kindOf}
-use Rattle.syntax.specs.Policy.{Operator, StringEquals, StringLike, NumericLessThanEquals, Row}
-use Rattle.syntax.specs.Forms.{Reading, wrong, read, either}
-use Rattle.syntax.specs.Members.{then, only, members, hasLike, differ, differing}
-use Rattle.syntax.specs.PolicyLayout.{rowOf, sameRow, rowsOf, operatorOf, sameOperator, Group, sameGroup, groupOf}
-use Rattle.syntax.specs.PolicyLayout.{rowsIn, operatorsIn, conditionOf}
-use Rattle.held.specs.Held.{heldEach, heldList, heldRow, operatorNumber}
+use Rattle.syntax.specs.Policy.{Operator}
+use Rattle.syntax.specs.Forms.{Reading, wrong, read}
+use Rattle.syntax.specs.Members.{then, only, members, differ, differing}
+use Rattle.syntax.specs.PolicyLayout.{rowOf, sameRow, rowsOf, Group, sameGroup, groupOf}
+use Rattle.syntax.specs.PolicyLayout.{rowsIn, operatorsIn}
+use Rattle.held.specs.Held.{heldEach, heldList, heldRow}
 use Rattle.parts.specs.Holding.{isObject, Extends, Laid, Left, Gathered}
 use Rattle.parts.proofs.Laws.Holding.{never}
 use Rattle.parts.proofs.Laws.Extends.{extends-front}
-use Rattle.parts.proofs.Laws.Formed.{then-wrong, then-read}
-use Rattle.parts.proofs.Laws.Fits.{wrong-read, then-inv, only-inv, cons-inv}
+use Rattle.parts.proofs.Laws.Fits.{then-inv, only-inv, cons-inv}
 use Rattle.parts.proofs.Laws.Sofar.{held-append}
 
 -- ---- rows of one operator

@@ -2,7 +2,6 @@
 use mathlib.Core.Path.{subst}
 use mathlib.Core.List.{List, _∷_}
 use Prim.Native.Nat.{ℕ, _+_, _<_}
-use native.Mathlib.Omega.{arith}
 use lib.ListN.{length, set}
 use Rattle.text.specs.Json.{Json}
 use Rattle.syntax.specs.Forms.{Reading}

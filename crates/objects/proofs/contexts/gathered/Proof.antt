@@ -1,12 +1,16 @@
 -- Each turn passes one member; what it held is noted by its word.
-use mathlib.Core.Path.{refl}
+use mathlib.Core.Path.{_≡_, refl}
 use Prim.Native.Nat.{_+_, _-_, _≤_}
 use native.Mathlib.Omega.{arith}
 use lib.ListN.{length, length-set}
+use Rattle.parts.specs.Slots.{wordAt, Turn}
+use Rattle.straight.specs.Marks.{Named}
+use Rattle.objects.specs.Spans.{toOf}
+use Rattle.objects.specs.Gathering.{PartHeld}
 use Rattle.objects.specs.Contexts.{contexts}
-use Rattle.objects.proofs.Laws.Gathering.{Gathering, gathering-start, gathering-roomy, gathering-none}
-use Rattle.objects.proofs.Laws.Gathering.{gathering-end-inside, gathering-less, gathering-more, gathering-end}
-use Rattle.objects.proofs.Laws.Gathering.{named-turn, part-held}
+use Rattle.objects.proofs.Laws.Gathering.{named-turn, part-held, Gathering, gathering-start, gathering-roomy}
+use Rattle.objects.proofs.Laws.Gathering.{gathering-none, gathering-end-inside, gathering-less, gathering-more}
+use Rattle.objects.proofs.Laws.Gathering.{gathering-end}
 use Rattle.objects.proofs.Laws.Contexts.{contexts-proper}
 use borrow.Author.Needs.{needs}
 use Rattle.objects.proofs.contexts.gathered.Statement.{statement}
@@ -17,6 +21,46 @@ Inv-loop s first run₀ at spans₀ i₀ p₀ run spans i p = Gathering contexts
 
 abbrev μ-loop : tie.MeasureT-loop
 μ-loop s first run₀ at spans₀ i₀ p₀ run spans i p = length s - i
+
+-- the name that was found, the turn's state before it, and where the function starts
+abbrev asked : tie.After-w Inv-loop μ-loop → tie.After-which Inv-loop μ-loop
+asked d = d .before .before
+
+abbrev turn : tie.After-w Inv-loop μ-loop → tie.At-loop Inv-loop μ-loop
+turn d = asked d .before
+
+abbrev start : tie.After-w Inv-loop μ-loop → tie.Start Inv-loop μ-loop
+start d = turn d .before .before .before
+
+-- the call that holds its value
+abbrev call : tie.After-h Inv-loop μ-loop → tie.After-part Inv-loop μ-loop
+call c = c .before .before .before .before
+
+abbrev found : tie.After-h Inv-loop μ-loop → tie.After-w Inv-loop μ-loop
+found c = call c .before .before .before .before
+
+named : (d : tie.After-w Inv-loop μ-loop)
+    → (Turn (contexts .words) (d .w .given .0 .0)) × (Named (start d .args .s .now) (wordAt (contexts .words)
+    (d .w .given .0 .0))
+    (turn d .loop .i) (d .w .given .0 .1 .0))
+named d =
+    named-turn (contexts .words) (start d .args .s .now) (turn d .loop .i) (asked d .which .result) (d .w .given .0 .0)
+    (d .w .given .0 .1 .0) (asked d .which .ensures) (d .w .given .1)
+
+few : (d : tie.After-w Inv-loop μ-loop) → d .w .given .0 .0 ≤ 5
+few d = let t = named d .0 in omega (arith, t .to, contexts-proper .few)
+
+absent : (c : tie.After-h Inv-loop μ-loop) → toOf (turn (found c) .loop .spans) (found c .w .given .0 .0) ≡ 0
+absent c = call c .before .before .if1 .left
+
+held : (c : tie.After-h Inv-loop μ-loop)
+    → PartHeld contexts (start (found c) .args .s .now) (turn (found c) .loop .run) (call c .part .last .1 .1 .0)
+    (found c .w .given .0 .1 .0) (turn (found c) .loop .p) (found c .w .given .0 .0) (c .h .given .0 .0)
+    (c .h .given .0 .1 .0) (c .h .given .0 .1 .1 .0) (c .h .given .0 .1 .1 .1 .0)
+held c =
+    let d = found c in
+    part-held contexts (start d .args .s .now) (turn d .loop .run) (call c .part .last .1 .1 .0) (d .w .given .0 .1 .0)
+    (turn d .loop .p) (d .w .given .0 .0) (call c .part .ensures) (c .h .given .1)
 
 loop-holds : tie.Need-loop-holds Inv-loop μ-loop
 loop-holds c = gathering-start contexts (c .before .before .pre .0) (omega (arith, c .before .before .pre .1 .room))
@@ -37,69 +81,27 @@ returns : tie.Need-returns Inv-loop μ-loop
 returns c = gathering-none (c .before .before .before .loop .inv) refl
 
 add-if1 : tie.Need-add-if1 Inv-loop μ-loop
-add-if1 c =
-    let at-w = c .before in
-    let at-which = at-w .before .before in
-    let at-loop = at-which .before in
-    let a = at-loop .before .before .before .args in
-    let g = at-w .w .given in
-    let t = named-turn (contexts .words) (a .s .now) (at-loop .loop .i) (at-which .which .result) (g .0 .0) (g .0 .1 .0)
-    (at-which .which .ensures) (g .1) in
-    let few : g .0 .0 ≤ 5 = omega (arith, t .0 .to, contexts-proper .few) in
-    search needs
+add-if1 c = let h = few (c .before) in search needs
 
 add-if1-2 : tie.Need-add-if1-2 Inv-loop μ-loop
-add-if1-2 c =
-    let at-w = c .before in
-    let at-which = at-w .before .before in
-    let at-loop = at-which .before in
-    let a = at-loop .before .before .before .args in
-    let g = at-w .w .given in
-    let t = named-turn (contexts .words) (a .s .now) (at-loop .loop .i) (at-which .which .result) (g .0 .0) (g .0 .1 .0)
-    (at-which .which .ensures) (g .1) in
-    let few : g .0 .0 ≤ 5 = omega (arith, t .0 .to, contexts-proper .few) in
-    search needs
+add-if1-2 c = let h = few (c .before) in search needs
 
 mul-if1 : tie.Need-mul-if1 Inv-loop μ-loop
-mul-if1 c =
-    let at-w = c .before in
-    let at-which = at-w .before .before in
-    let at-loop = at-which .before in
-    let a = at-loop .before .before .before .args in
-    let g = at-w .w .given in
-    let t = named-turn (contexts .words) (a .s .now) (at-loop .loop .i) (at-which .which .result) (g .0 .0) (g .0 .1 .0)
-    (at-which .which .ensures) (g .1) in
-    let few : g .0 .0 ≤ 5 = omega (arith, t .0 .to, contexts-proper .few) in
-    search needs
+mul-if1 c = let h = few (c .before) in search needs
 
 array-read-if1 : tie.Need-array-read-if1 Inv-loop μ-loop
-array-read-if1 c =
-    let at-w = c .before in
-    let at-which = at-w .before .before in
-    let at-loop = at-which .before in
-    let a = at-loop .before .before .before .args in
-    let g = at-w .w .given in
-    let t = named-turn (contexts .words) (a .s .now) (at-loop .loop .i) (at-which .which .result) (g .0 .0) (g .0 .1 .0)
-    (at-which .which .ensures) (g .1) in
-    let few : g .0 .0 ≤ 5 = omega (arith, t .0 .to, contexts-proper .few) in
-    omega (arith, at-loop .loop .inv .spans)
+array-read-if1 c = omega (arith, few (c .before), turn (c .before) .loop .inv .spans)
 
 same-length-2 : tie.Need-same-length-2 Inv-loop μ-loop
 same-length-2 c = search needs
 
 returns-2 : tie.Need-returns-2 Inv-loop μ-loop
-returns-2 c = gathering-none (c .before .before .before .before .before .loop .inv) refl
+returns-2 c = gathering-none (turn (c .before .before) .loop .inv) refl
 
 part-requires : tie.Need-part-requires Inv-loop μ-loop
 part-requires c κs =
-    let at-w = c .before .before .before in
-    let at-which = at-w .before .before in
-    let at-loop = at-which .before in
-    let a = at-loop .before .before .before .args in
-    let g = at-w .w .given in
-    let t = named-turn (contexts .words) (a .s .now) (at-loop .loop .i) (at-which .which .result) (g .0 .0) (g .0 .1 .0)
-    (at-which .which .ensures) (g .1) in
-    (gathering-roomy (at-loop .before .before .before .pre .1) (at-loop .loop .inv), t .0)
+    let d = c .before .before .before in
+    (gathering-roomy (start d .pre .1) (turn d .loop .inv), named d .0)
 
 enum-known-h : tie.Need-enum-known-h Inv-loop μ-loop
 enum-known-h c = search needs
@@ -112,124 +114,46 @@ same-length-3 c = search needs
 
 returns-3 : tie.Need-returns-3 Inv-loop μ-loop
 returns-3 c =
-    let at-part = c .before .before .before .before in
-    gathering-none (at-part .before .before .before .before .before .before .before .loop .inv)
-    (at-part .part .kept .1 .1 .0)
+    let d = c .before .before .before .before in
+    gathering-none (turn (d .before .before .before .before) .loop .inv) (d .part .kept .1 .1 .0)
 
 add-spans : tie.Need-add-spans Inv-loop μ-loop
-add-spans c =
-    let at-w = c .before .before .before .before .before .before .before .before .before in
-    let at-which = at-w .before .before in
-    let at-loop = at-which .before in
-    let a = at-loop .before .before .before .args in
-    let g = at-w .w .given in
-    let t = named-turn (contexts .words) (a .s .now) (at-loop .loop .i) (at-which .which .result) (g .0 .0) (g .0 .1 .0)
-    (at-which .which .ensures) (g .1) in
-    let few : g .0 .0 ≤ 5 = omega (arith, t .0 .to, contexts-proper .few) in
-    search needs
+add-spans c = let h = few (found (c .before)) in search needs
 
 mul-spans : tie.Need-mul-spans Inv-loop μ-loop
-mul-spans c =
-    let at-w = c .before .before .before .before .before .before .before .before .before in
-    let at-which = at-w .before .before in
-    let at-loop = at-which .before in
-    let a = at-loop .before .before .before .args in
-    let g = at-w .w .given in
-    let t = named-turn (contexts .words) (a .s .now) (at-loop .loop .i) (at-which .which .result) (g .0 .0) (g .0 .1 .0)
-    (at-which .which .ensures) (g .1) in
-    let few : g .0 .0 ≤ 5 = omega (arith, t .0 .to, contexts-proper .few) in
-    search needs
+mul-spans c = let h = few (found (c .before)) in search needs
 
 array-write-spans : tie.Need-array-write-spans Inv-loop μ-loop
-array-write-spans c =
-    let at-w = c .before .before .before .before .before .before .before .before .before in
-    let at-which = at-w .before .before in
-    let at-loop = at-which .before in
-    let a = at-loop .before .before .before .args in
-    let g = at-w .w .given in
-    let t = named-turn (contexts .words) (a .s .now) (at-loop .loop .i) (at-which .which .result) (g .0 .0) (g .0 .1 .0)
-    (at-which .which .ensures) (g .1) in
-    let few : g .0 .0 ≤ 5 = omega (arith, t .0 .to, contexts-proper .few) in
-    omega (arith, at-loop .loop .inv .spans, few)
+array-write-spans c = omega (arith, few (found (c .before)), turn (found (c .before)) .loop .inv .spans)
 
 add-spans-2 : tie.Need-add-spans-2 Inv-loop μ-loop
-add-spans-2 c =
-    let at-w = c .before .before .before .before .before .before .before .before .before in
-    let at-which = at-w .before .before in
-    let at-loop = at-which .before in
-    let a = at-loop .before .before .before .args in
-    let g = at-w .w .given in
-    let t = named-turn (contexts .words) (a .s .now) (at-loop .loop .i) (at-which .which .result) (g .0 .0) (g .0 .1 .0)
-    (at-which .which .ensures) (g .1) in
-    let few : g .0 .0 ≤ 5 = omega (arith, t .0 .to, contexts-proper .few) in
-    search needs
+add-spans-2 c = let h = few (found (c .before)) in search needs
 
 add-spans-3 : tie.Need-add-spans-3 Inv-loop μ-loop
-add-spans-3 c =
-    let at-w = c .before .before .before .before .before .before .before .before .before in
-    let at-which = at-w .before .before in
-    let at-loop = at-which .before in
-    let a = at-loop .before .before .before .args in
-    let g = at-w .w .given in
-    let t = named-turn (contexts .words) (a .s .now) (at-loop .loop .i) (at-which .which .result) (g .0 .0) (g .0 .1 .0)
-    (at-which .which .ensures) (g .1) in
-    let few : g .0 .0 ≤ 5 = omega (arith, t .0 .to, contexts-proper .few) in
-    search needs
+add-spans-3 c = let h = few (found (c .before)) in search needs
 
 mul-spans-2 : tie.Need-mul-spans-2 Inv-loop μ-loop
-mul-spans-2 c =
-    let at-w = c .before .before .before .before .before .before .before .before .before in
-    let at-which = at-w .before .before in
-    let at-loop = at-which .before in
-    let a = at-loop .before .before .before .args in
-    let g = at-w .w .given in
-    let t = named-turn (contexts .words) (a .s .now) (at-loop .loop .i) (at-which .which .result) (g .0 .0) (g .0 .1 .0)
-    (at-which .which .ensures) (g .1) in
-    let few : g .0 .0 ≤ 5 = omega (arith, t .0 .to, contexts-proper .few) in
-    search needs
+mul-spans-2 c = let h = few (found (c .before)) in search needs
 
 array-write-spans-2 : tie.Need-array-write-spans-2 Inv-loop μ-loop
 array-write-spans-2 c =
-    let at-w = c .before .before .before .before .before .before .before .before .before in
-    let at-which = at-w .before .before in
-    let at-loop = at-which .before in
-    let a = at-loop .before .before .before .args in
-    let g = at-w .w .given in
-    let t = named-turn (contexts .words) (a .s .now) (at-loop .loop .i) (at-which .which .result) (g .0 .0) (g .0 .1 .0)
-    (at-which .which .ensures) (g .1) in
-    let few : g .0 .0 ≤ 5 = omega (arith, t .0 .to, contexts-proper .few) in
-    let l = length-set (at-loop .loop .spans) (g .0 .0 + g .0 .0) (c .before .h .given .0 .0) in
-    omega (arith, at-loop .loop .inv .spans, l)
+    let d = found (c .before) in
+    let k = d .w .given .0 .0 in
+    omega (arith, few d, turn d .loop .inv .spans, length-set (turn d .loop .spans) (k + k) (c .before .h .given .0 .0))
 
 parted-requires : tie.Need-parted-requires Inv-loop μ-loop
 parted-requires c κs =
     let at-h = c .before in
-    let at-part = at-h .before .before .before .before in
-    let at-w = at-part .before .before .before .before in
-    let at-which = at-w .before .before in
-    let at-loop = at-which .before in
-    let a = at-loop .before .before .before .args in
-    let g = at-w .w .given in
-    let t = named-turn (contexts .words) (a .s .now) (at-loop .loop .i) (at-which .which .result) (g .0 .0) (g .0 .1 .0)
-    (at-which .which .ensures) (g .1) in
-    let h = part-held contexts (a .s .now) (at-loop .loop .run) (at-part .part .last .1 .1 .0) (g .0 .1 .0)
-    (at-loop .loop .p) (g .0 .0) (at-part .part .ensures) (at-h .h .given .1) in
-    gathering-end-inside contexts-proper (at-loop .loop .inv) (t .0) (t .1) (at-part .before .before .if1 .left) h
+    gathering-end-inside contexts-proper (turn (found at-h) .loop .inv) (named (found at-h) .0) (named
+    (found at-h) .1) (absent at-h)
+    (held at-h)
 
 closed-requires : tie.Need-closed-requires Inv-loop μ-loop
 closed-requires c κs =
     let at-h = c .before .before .before in
-    let at-part = at-h .before .before .before .before in
-    let at-w = at-part .before .before .before .before in
-    let at-which = at-w .before .before in
-    let at-loop = at-which .before in
-    let a = at-loop .before .before .before .args in
-    let g = at-w .w .given in
-    let t = named-turn (contexts .words) (a .s .now) (at-loop .loop .i) (at-which .which .result) (g .0 .0) (g .0 .1 .0)
-    (at-which .which .ensures) (g .1) in
-    let h = part-held contexts (a .s .now) (at-loop .loop .run) (at-part .part .last .1 .1 .0) (g .0 .1 .0)
-    (at-loop .loop .p) (g .0 .0) (at-part .part .ensures) (at-h .h .given .1) in
-    gathering-end-inside contexts-proper (at-loop .loop .inv) (t .0) (t .1) (at-part .before .before .if1 .left) h
+    gathering-end-inside contexts-proper (turn (found at-h) .loop .inv) (named (found at-h) .0) (named
+    (found at-h) .1) (absent at-h)
+    (held at-h)
 
 array-write-spans-3 : tie.Need-array-write-spans-3 Inv-loop μ-loop
 array-write-spans-3 c = search needs
@@ -243,49 +167,22 @@ same-length-4 c = search needs
 returns-4 : tie.Need-returns-4 Inv-loop μ-loop
 returns-4 c =
     let at-h = c .before .before .before .before in
-    let at-part = at-h .before .before .before .before in
-    let at-w = at-part .before .before .before .before in
-    let at-which = at-w .before .before in
-    let at-loop = at-which .before in
-    let a = at-loop .before .before .before .args in
-    let g = at-w .w .given in
-    let t = named-turn (contexts .words) (a .s .now) (at-loop .loop .i) (at-which .which .result) (g .0 .0) (g .0 .1 .0)
-    (at-which .which .ensures) (g .1) in
-    let h = part-held contexts (a .s .now) (at-loop .loop .run) (at-part .part .last .1 .1 .0) (g .0 .1 .0)
-    (at-loop .loop .p) (g .0 .0) (at-part .part .ensures) (at-h .h .given .1) in
-    gathering-end contexts-proper (at-loop .loop .inv) (t .0) (t .1) (at-part .before .before .if1 .left) h
+    gathering-end contexts-proper (turn (found at-h) .loop .inv) (named (found at-h) .0) (named (found at-h) .1)
+    (absent at-h) (held at-h)
     (c .closed .ensures .found)
 
 loop-less : tie.Need-loop-less Inv-loop μ-loop
 loop-less c =
     let at-h = c .before .before .before in
-    let at-part = at-h .before .before .before .before in
-    let at-w = at-part .before .before .before .before in
-    let at-which = at-w .before .before in
-    let at-loop = at-which .before in
-    let a = at-loop .before .before .before .args in
-    let g = at-w .w .given in
-    let t = named-turn (contexts .words) (a .s .now) (at-loop .loop .i) (at-which .which .result) (g .0 .0) (g .0 .1 .0)
-    (at-which .which .ensures) (g .1) in
-    let h = part-held contexts (a .s .now) (at-loop .loop .run) (at-part .part .last .1 .1 .0) (g .0 .1 .0)
-    (at-loop .loop .p) (g .0 .0) (at-part .part .ensures) (at-h .h .given .1) in
-    gathering-less contexts-proper (at-loop .loop .inv) (t .0) (t .1) (at-part .before .before .if1 .left) h
+    gathering-less contexts-proper (turn (found at-h) .loop .inv) (named (found at-h) .0) (named (found at-h) .1)
+    (absent at-h) (held at-h)
     (c .before .parted .ensures .found (c .if2 .left))
 
 loop-again : tie.Need-loop-again Inv-loop μ-loop
 loop-again c =
     let at-h = c .before .before .before in
-    let at-part = at-h .before .before .before .before in
-    let at-w = at-part .before .before .before .before in
-    let at-which = at-w .before .before in
-    let at-loop = at-which .before in
-    let a = at-loop .before .before .before .args in
-    let g = at-w .w .given in
-    let t = named-turn (contexts .words) (a .s .now) (at-loop .loop .i) (at-which .which .result) (g .0 .0) (g .0 .1 .0)
-    (at-which .which .ensures) (g .1) in
-    let h = part-held contexts (a .s .now) (at-loop .loop .run) (at-part .part .last .1 .1 .0) (g .0 .1 .0)
-    (at-loop .loop .p) (g .0 .0) (at-part .part .ensures) (at-h .h .given .1) in
-    gathering-more contexts-proper (at-loop .loop .inv) (t .0) (t .1) (at-part .before .before .if1 .left) h
+    gathering-more contexts-proper (turn (found at-h) .loop .inv) (named (found at-h) .0) (named (found at-h) .1)
+    (absent at-h) (held at-h)
     (c .before .parted .ensures .found (c .if2 .left))
 
 pub gathered-spec : {M : Type 1} → statement M

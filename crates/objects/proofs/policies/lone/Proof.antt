@@ -33,7 +33,8 @@ returns-2 c =
     let at-call = c .before .before .before .before .before in
     let start = at-call .before .before .before .before in
     lone-laid (start .pre .0) (takes-past heldStatement 4 (start .args .s .now) (start .args .run .now)
-    (at-call .statement .last .1 .1 .0) (start .args .v) 1 statementOf (at-call .statement .ensures) (c .before .h .given .1))
+    (at-call .statement .last .1 .1 .0) (start .args .v) 1 statementOf (at-call .statement .ensures)
+    (c .before .h .given .1))
 
 pub lone-spec : {M : Type 1} → statement M
 lone-spec =

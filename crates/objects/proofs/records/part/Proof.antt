@@ -18,7 +18,8 @@ returns : tie.Need-returns
 returns c =
     let at-call = c .before .before .before in
     let start = at-call .before .before .before .before .before in
-    part-is (start .args .s .now) (start .args .run .now) (at-call .action .last .1 .1 .0) (start .args .v) (start .args .at)
+    part-is (start .args .s .now) (start .args .run .now) (at-call .action .last .1 .1 .0) (start .args .v)
+    (start .args .at)
     (at-call .before .before .if1 .taken) (c .laid .ensures)
     (action-part (start .args .s .now) (start .args .run .now) (at-call .action .last .1 .1 .0) (start .args .v)
     (start .args .at) (at-call .action .result) (omega (arith, start .pre .0 .room)) (at-call .action .ensures))
@@ -36,7 +37,8 @@ returns-2 : tie.Need-returns-2
 returns-2 c =
     let at-call = c .before .before .before in
     let start = at-call .before .before .before .before .before .before in
-    part-is (start .args .s .now) (start .args .run .now) (at-call .resource .last .1 .1 .0) (start .args .v) (start .args .at)
+    part-is (start .args .s .now) (start .args .run .now) (at-call .resource .last .1 .1 .0) (start .args .v)
+    (start .args .at)
     (at-call .before .before .if2 .taken) (c .laid2 .ensures)
     (resource-part (start .args .s .now) (start .args .run .now) (at-call .resource .last .1 .1 .0) (start .args .v)
     (start .args .at) (at-call .resource .result) (omega (arith, start .pre .0 .room)) (at-call .resource .ensures))
@@ -54,8 +56,10 @@ returns-3 : tie.Need-returns-3
 returns-3 c =
     let at-call = c .before .before .before in
     let start = at-call .before .before .before .before .before .before in
-    part-is (start .args .s .now) (start .args .run .now) (at-call .contexts .last .1 .1 .0) (start .args .v) (start .args .at)
-    (last-turn (start .args .turn) (start .pre .1) (at-call .before .before .before .if1 .left) (at-call .before .before .if2 .left)) (c .laid3 .ensures)
+    part-is (start .args .s .now) (start .args .run .now) (at-call .contexts .last .1 .1 .0) (start .args .v)
+    (start .args .at)
+    (last-turn (start .args .turn) (start .pre .1) (at-call .before .before .before .if1 .left)
+    (at-call .before .before .if2 .left)) (c .laid3 .ensures)
     (contexts-part (start .args .s .now) (start .args .run .now) (at-call .contexts .last .1 .1 .0) (start .args .v)
     (start .args .at) (at-call .contexts .result) (omega (arith, start .pre .0 .room)) (at-call .contexts .ensures))
 

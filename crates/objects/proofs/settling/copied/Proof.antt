@@ -70,14 +70,17 @@ loop-again c =
     let l = c .before .before .before .before .before .before in
     let below = c .before .before .before .before .before .loop-test .taken in (
       omega (arith, below),
-      copying-more (l .before .before .pre .0) (l .loop .inv .1) (omega (arith, below)) (c .before .before .moved .ensures),
+      copying-more (l .before .before .pre .0) (l .loop .inv .1) (omega (arith, below))
+          (c .before .before .moved .ensures),
     )
 
 same-length-2 : tie.Need-same-length-2 Inv-loop μ-loop
 same-length-2 c = search needs
 
 returns-2 : tie.Need-returns-2 Inv-loop μ-loop
-returns-2 c = copying-end (c .before .before .before .pre .0) (c .before .loop .inv .1) (omega (arith, c .loop-test .left, c .before .loop .inv .0))
+returns-2 c =
+    copying-end (c .before .before .before .pre .0) (c .before .loop .inv .1) (omega
+    (arith, c .loop-test .left, c .before .loop .inv .0))
 
 pub copied-spec : {M : Type 1} → statement M
 copied-spec =

@@ -2,7 +2,7 @@
 use Prim.Native.Nat.{_≤_, _-_}
 use mathlib.Core.Path.{_≡_}
 use native.Mathlib.Omega.{arith}
-use Rattle.objects.proofs.Laws.Settling.{Moving, moving-start, moving-size, moving-more, moving-end}
+use Rattle.objects.proofs.Laws.Settling.{Moving, moving-start, moving-more, moving-end}
 use borrow.Author.Needs.{needs}
 use Rattle.objects.proofs.settling.moved.Statement.{statement}
 use Rattle.objects.proofs.settling.moved.Tie as tie
@@ -45,8 +45,10 @@ loop-less c = search needs
 
 loop-again : tie.Need-loop-again Inv-loop μ-loop
 loop-again c =
-    let g = c .before .before .loop .inv .1 .1 in
-    (search needs, (omega arith, moving-more (c .before .before .before .pre) g (omega (arith, c .before .loop-test .taken))))
+    let g = c .before .before .loop .inv .1 .1 in (
+      search needs,
+      (omega arith, moving-more (c .before .before .before .pre) g (omega (arith, c .before .loop-test .taken))),
+    )
 
 add-result : tie.Need-add-result Inv-loop μ-loop
 add-result c = search needs

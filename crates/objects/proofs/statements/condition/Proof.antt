@@ -54,7 +54,8 @@ returns-4 c =
     let start = at-condition .before .before .before .before .before in
     several-taken (omega (arith, at-condition .before .before .if1 .left))
     (several-past heldRow 3 (start .args .s .now) (start .args .run .now) (at-condition .condition .last .1 .1 .0)
-    (start .args .v) (start .args .at + 1) conditionOf (at-condition .condition .ensures) (c .before .before .c .given .1))
+    (start .args .v) (start .args .at + 1) conditionOf (at-condition .condition .ensures)
+    (c .before .before .c .given .1))
 
 pub condition-spec : {M : Type 1} → statement M
 condition-spec =

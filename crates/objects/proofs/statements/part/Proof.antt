@@ -19,7 +19,8 @@ returns : tie.Need-returns
 returns c =
     let at-call = c .before .before .before in
     let start = at-call .before .before .before .before .before in
-    part-is (start .args .s .now) (start .args .run .now) (at-call .sid .last .1 .1 .0) (start .args .v) (start .args .at)
+    part-is (start .args .s .now) (start .args .run .now) (at-call .sid .last .1 .1 .0) (start .args .v)
+    (start .args .at)
     (at-call .before .before .if1 .taken) (c .laid .ensures)
     (sid-part (start .args .s .now) (start .args .run .now) (at-call .sid .last .1 .1 .0) (start .args .v)
     (start .args .at) (at-call .sid .result) (omega (arith, start .pre .0 .room)) (at-call .sid .ensures))
@@ -37,7 +38,8 @@ returns-2 : tie.Need-returns-2
 returns-2 c =
     let at-call = c .before .before .before in
     let start = at-call .before .before .before .before .before .before in
-    part-is (start .args .s .now) (start .args .run .now) (at-call .entries .last .1 .1 .0) (start .args .v) (start .args .at)
+    part-is (start .args .s .now) (start .args .run .now) (at-call .entries .last .1 .1 .0) (start .args .v)
+    (start .args .at)
     (at-call .before .before .if2 .taken) (c .laid2 .ensures)
     (action-part (start .args .s .now) (start .args .run .now) (at-call .entries .last .1 .1 .0) (start .args .v)
     (start .args .at) (at-call .entries .result) (omega (arith, start .pre .0 .room)) (at-call .entries .ensures))
@@ -55,7 +57,8 @@ returns-3 : tie.Need-returns-3
 returns-3 c =
     let at-call = c .before .before .before in
     let start = at-call .before .before .before .before .before .before .before in
-    part-is (start .args .s .now) (start .args .run .now) (at-call .entries2 .last .1 .1 .0) (start .args .v) (start .args .at)
+    part-is (start .args .s .now) (start .args .run .now) (at-call .entries2 .last .1 .1 .0) (start .args .v)
+    (start .args .at)
     (at-call .before .before .if3 .taken) (c .laid3 .ensures)
     (resource-part (start .args .s .now) (start .args .run .now) (at-call .entries2 .last .1 .1 .0) (start .args .v)
     (start .args .at) (at-call .entries2 .result) (omega (arith, start .pre .0 .room)) (at-call .entries2 .ensures))
@@ -73,7 +76,8 @@ returns-4 : tie.Need-returns-4
 returns-4 c =
     let at-call = c .before .before .before in
     let start = at-call .before .before .before .before .before .before .before .before in
-    part-is (start .args .s .now) (start .args .run .now) (at-call .condition .last .1 .1 .0) (start .args .v) (start .args .at)
+    part-is (start .args .s .now) (start .args .run .now) (at-call .condition .last .1 .1 .0) (start .args .v)
+    (start .args .at)
     (at-call .before .before .if4 .taken) (c .laid4 .ensures)
     (condition-part (start .args .s .now) (start .args .run .now) (at-call .condition .last .1 .1 .0) (start .args .v)
     (start .args .at) (at-call .condition .result) (omega (arith, start .pre .0 .room)) (at-call .condition .ensures))

@@ -28,7 +28,8 @@ gathered-requires c κs =
     let at-begun = c .before .before .before in
     let at-opened = at-begun .before .before .before in
     let start = at-opened .before .before .before .before in
-    let low : start .args .at + 2 ≤ length (start .args .run .now) = omega (arith, at-opened .before .if1 .left, start .pre .room) in
+    let low : start .args .at + 2 ≤ length (start .args .run .now) =
+    omega (arith, at-opened .before .if1 .left, start .pre .room) in
     let b = at-begun .begun .ensures in (
       opened-inside (at-opened .opened .ensures .found (at-begun .before .before .if2 .left)),
       record {
@@ -56,7 +57,8 @@ arranged-requires c κs =
     let at-begun = at-gathered .before .before .before .before in
     let at-opened = at-begun .before .before .before in
     let start = at-opened .before .before .before .before in
-    let low : start .args .at + 2 ≤ length (start .args .run .now) = omega (arith, at-opened .before .if1 .left, start .pre .room) in
+    let low : start .args .at + 2 ≤ length (start .args .run .now) =
+    omega (arith, at-opened .before .if1 .left, start .pre .room) in
     record {
       slots = _;
       sorted = statement-sorted low (at-begun .begun .ensures) (at-gathered .gathered .ensures) (c .before .if3 .left)
@@ -81,7 +83,8 @@ returns-5 c =
     let at-begun = at-gathered .before .before .before .before in
     let at-opened = at-begun .before .before .before in
     let start = at-opened .before .before .before .before in
-    let low : start .args .at + 2 ≤ length (start .args .run .now) = omega (arith, at-opened .before .if1 .left, start .pre .room) in
+    let low : start .args .at + 2 ≤ length (start .args .run .now) =
+    omega (arith, at-opened .before .if1 .left, start .pre .room) in
     let b = at-begun .begun .ensures in
     let g = at-gathered .gathered .ensures in
     let w = at-sid .with-sid .ensures in
