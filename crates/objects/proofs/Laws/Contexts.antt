@@ -53,7 +53,6 @@ use Rattle.objects.specs.Gathering.{told, SlotFound, Parts, laidAs, told
 use Rattle.objects.specs.Filling.{Ready, noted}
 use Rattle.objects.specs.Contexts.{contexts, Slots, contextFrom, Sorted, Texting, Valued}
 use Rattle.objects.specs.Contexts as C
-use Rattle.objects.specs.declared.members.Part.{Part}
 use Rattle.objects.proofs.Laws.Settling.{kept-less, extends-here}
 use Rattle.objects.proofs.Laws.Gathering.{Proper}
 use Rattle.objects.proofs.Laws.Filling.{takes-part, tells-part, required-ready, ready-still, ready-span}
@@ -88,12 +87,6 @@ turned k o h = record { from = o; to = h }
 -- ---- one member
 
 module _ (s run run′ : List ℕ) (v at : ℕ) where
-  pub part-is : {k j : ℕ} {r q : Part} → k ≡ j → r ≡ q → Parts contexts s run run′ v at j q
-      → Parts contexts s run run′ v at k r
-  part-is {j = j} {r} e f x =
-      subst (λ (k : ℕ). Parts contexts s run run′ v at k r) (sym e)
-      (subst (Parts contexts s run run′ v at j) (sym f) x)
-
   pub key-part : (r : Ended) → at ≤ length run → Takes heldText keyNameOf 0 s run run′ v at r
       → Parts contexts s run run′ v at 1 (laidAs r at)
   key-part r low t =

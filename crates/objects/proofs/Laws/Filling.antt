@@ -12,6 +12,7 @@ use lib.Seq.{getD-set-same, getD-set-other}
 use Rattle.text.specs.Json.{Json}
 use Rattle.syntax.specs.Forms.{Reading, read}
 use Rattle.syntax.specs.Members.{Slot, none, many, one, required, optional}
+use Rattle.held.specs.Held.{heldEach, heldList}
 use Rattle.parts.specs.Holding.{Extends, Kept}
 use Rattle.parts.specs.declared.holding.Ended.{Ended}
 use Rattle.parts.specs.declared.holding.Ended.the-variants as N
@@ -238,6 +239,11 @@ pub ready-piece : {A : Type 0} {h : A → List ℕ} {x : Reading A} {run m : Lis
 ready-piece y high = extends-part (omega (arith, y .lies .place, y .inside)) (y .lies)
 
 -- ---- putting what stands for an absent part
+
+-- a list of nothing
+pub nothing-held : {A : Type 0} (h : A → List ℕ) → heldList h [] ≡ 0 ∷ []
+unfolding heldEach
+nothing-held h = refl
 
 pub zero-absent : {run m : List ℕ} {k : ℕ} → toOf m k ≡ 0 → behind m < length run
     → Filled (0 ∷ []) run (set run (behind m) 0) m (noted m k (behind m) (behind m + 1) (behind m + 1)) k

@@ -54,6 +54,12 @@ pub part-held : (l : Kinded) (s run run′ : List ℕ) (v at k : ℕ) {r : Part}
     → Parts l s run run′ v at k r → r ≡ P.At from to past end → PartHeld l s run run′ v at k from to past end
 part-held l s run run′ v at k h e = subst (Parts l s run run′ v at k) e h
 
+-- the same of an answer and a turn that are known
+pub part-is : (l : Kinded) (s run run′ : List ℕ) (v at : ℕ) {k j : ℕ} {r q : Part} → k ≡ j → r ≡ q
+    → Parts l s run run′ v at j q → Parts l s run run′ v at k r
+part-is l s run run′ v at {j = j} {r} e f x =
+    subst (λ (k : ℕ). Parts l s run run′ v at k r) (sym e) (subst (Parts l s run run′ v at j) (sym f) x)
+
 -- ---- kept parts
 
 pub kept-then : {run run₁ run₂ : List ℕ} {p q : ℕ} → p ≤ q → Kept run run₁ p → Kept run₁ run₂ q → Kept run run₂ p

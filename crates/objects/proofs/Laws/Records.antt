@@ -1,5 +1,5 @@
 -- A record from its members: each is held as its word's, and all of them are the request that the object says.
-use mathlib.Core.Path.{_≡_, refl, sym, ap, _∙_, subst}
+use mathlib.Core.Path.{_≡_, refl, ap, _∙_, subst}
 use mathlib.Core.Bool.{Bool, true}
 use mathlib.Core.List.{List, [], _∷_, _++_, append-assoc}
 use Prim.Native.Nat.{ℕ, zero, suc, _+_, _≤_, _<_}
@@ -12,7 +12,7 @@ use Rattle.syntax.specs.Forms.{wrong}
 use Rattle.syntax.specs.Words.{actionNamesWord, resourceArnsWord, contextEntriesWord}
 use Rattle.syntax.specs.Members.{required, optional, slot, known}
 use Rattle.syntax.specs.RecordLayout.{onlyOne, actionNameOf, resourceArnOf, contextsOf, requestOf}
-use Rattle.held.specs.Held.{heldText, heldList, heldEach, heldContext, heldRequest}
+use Rattle.held.specs.Held.{heldText, heldList, heldContext, heldRequest}
 use Rattle.parts.specs.Slots.{wordAt, whichOf, Turn}
 use Rattle.parts.specs.Holding.{Extends, Laid}
 use Rattle.parts.specs.declared.holding.Ended.{Ended}
@@ -26,9 +26,8 @@ use Rattle.objects.specs.Spans.{toOf, behind, piece, inTurn, Span, Spann
 use Rattle.objects.specs.Gathering.{Parts, laidAs, Gathered}
 use Rattle.objects.specs.Filling.{Ready, Filled}
 use Rattle.objects.specs.Records.{recordHow, records, Slots, requestFrom, Sorted}
-use Rattle.objects.specs.declared.members.Part.{Part}
 use Rattle.objects.proofs.Laws.Gathering.{Proper, kept-then}
-use Rattle.objects.proofs.Laws.Filling.{takes-part, Whole, filled-whole, filled-other, filled-slot, filled-ready}
+use Rattle.objects.proofs.Laws.Filling.{nothing-held, takes-part, Whole, filled-whole, filled-other, filled-slot, filled-ready}
 use Rattle.objects.proofs.Laws.Filling.{required-ready, ready-span, ready-piece}
 use Rattle.objects.proofs.Laws.Settling.{kept-less}
 
@@ -59,12 +58,6 @@ turned k o h = record { from = o; to = h }
 -- ---- one member
 
 module _ (s run run′ : List ℕ) (v at : ℕ) where
-  pub part-is : {k j : ℕ} {r q : Part} → k ≡ j → r ≡ q → Parts records s run run′ v at j q
-      → Parts records s run run′ v at k r
-  part-is {j = j} {r} e f x =
-      subst (λ (k : ℕ). Parts records s run run′ v at k r) (sym e)
-      (subst (Parts records s run run′ v at j) (sym f) x)
-
   pub action-part : (r : Ended) → at ≤ length run → Takes heldText (onlyOne actionNameOf) 1 s run run′ v at r
       → Parts records s run run′ v at 1 (laidAs r at)
   action-part r low t =
@@ -83,10 +76,6 @@ module _ (s run run′ : List ℕ) (v at : ℕ) where
       (omega arith) low t
 
 -- ---- parts in the order of a request
-
-nothing-held : heldList heldContext [] ≡ 0 ∷ []
-unfolding heldEach
-nothing-held = refl
 
 three-in-turn : (run m : List ℕ) {a b c : List ℕ} → piece run m 1 ≡ a → piece run m 2 ≡ b → piece run m 3 ≡ c
     → inTurn run m 3 ≡ a ++ (b ++ c)
@@ -125,7 +114,7 @@ module _ {run m : List ℕ} {x : Slots} (w : Sorted run m x) (n₁ : toOf m 1 �
     contexts : Ready (heldList heldContext) (optional [] contextsOf (x .contexts)) run₂ m₂ 3
     contexts =
         filled-ready (whole .size) (omega arith) (omega arith) (whole .high) n₂ (heldList heldContext) contextsOf []
-        (x .contexts) nothing-held
+        (x .contexts) (nothing-held heldContext)
         (filled-slot (w .size) (omega arith) (omega arith) (w .high) n (recordHow 3) (x .contexts) 3 f (omega arith)
         (λ e. absurd (omega arith)) (w .contexts)) g
 

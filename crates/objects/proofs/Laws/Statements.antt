@@ -27,11 +27,10 @@ use Rattle.straight.proofs.Laws.AsTexts.{texts-laid}
 use Rattle.straight.proofs.Laws.Taking.{retaken}
 use Rattle.objects.specs.Gathering.{Parts, laidAs, toldAs}
 use Rattle.objects.specs.Statements.{statements}
-use Rattle.objects.specs.declared.members.Part.{Part}
 use Rattle.chars.specs.Base.{pick}
 use Rattle.syntax.specs.Policy.{Effect, Allow, Deny}
 use Rattle.syntax.specs.Words.{allowWord, denyWord, sidWord, effectWord, actionWord, resourceWord, conditionWord}
-use Rattle.held.specs.Held.{effectNumber, heldEach}
+use Rattle.held.specs.Held.{effectNumber}
 use Rattle.parts.specs.Holding.{Extends, Laid, Kept}
 use Rattle.parts.proofs.Laws.Extends.{extends-none, extends-front, extends-after}
 use Rattle.parts.proofs.Laws.Formed.{then-read}
@@ -46,7 +45,7 @@ use Rattle.objects.proofs.Laws.Filling.{required-ready, ready-span}
 use Rattle.objects.proofs.Laws.Filling.{ready-piece, optional-ready}
 use Rattle.objects.proofs.Laws.Settling.{kept-less, extends-here}
 use Rattle.objects.proofs.Laws.Gathering.{Proper, slot-none, extends-still, kept-then}
-use Rattle.objects.proofs.Laws.Filling.{takes-part, tells-part}
+use Rattle.objects.proofs.Laws.Filling.{nothing-held, takes-part, tells-part}
 
 -- ---- words
 
@@ -81,12 +80,6 @@ turned k o h = record { from = o; to = h }
 -- ---- one member
 
 module _ (s run run′ : List ℕ) (v at : ℕ) where
-  pub part-is : {k j : ℕ} {r q : Part} → k ≡ j → r ≡ q → Parts statements s run run′ v at j q
-      → Parts statements s run run′ v at k r
-  part-is {j = j} {r} e f x =
-      subst (λ (k : ℕ). Parts statements s run run′ v at k r) (sym e)
-      (subst (Parts statements s run run′ v at j) (sym f) x)
-
   pub sid-part : (r : Ended) → at ≤ length run → Takes heldText sidOf 0 s run run′ v at r
       → Parts statements s run run′ v at 1 (laidAs r at)
   sid-part r low t =
@@ -146,10 +139,6 @@ effect-few Deny = omega arith
 
 -- ---- parts in the order of a statement
 
-nothing-held : heldList heldRow [] ≡ 0 ∷ []
-unfolding heldEach
-nothing-held = refl
-
 four-in-turn : (run m : List ℕ) {a b c d : List ℕ} → piece run m 1 ≡ a → piece run m 2 ≡ b → piece run m 3 ≡ c
     → piece run m 4 ≡ d → inTurn run m 4 ≡ a ++ (b ++ (c ++ d))
 unfolding inTurn
@@ -191,7 +180,7 @@ module _ {run m : List ℕ} {at : ℕ} {x : Slots} (w : Sorted run m at x) (n₁
     rows : Ready (heldList heldRow) (optional [] conditionOf (x .condition)) run₁ m₁ 4
     rows =
         filled-ready (w .size) (omega arith) (omega arith) (w .high) n (heldList heldRow) conditionOf [] (x .condition)
-        nothing-held (w .condition) f
+        (nothing-held heldRow) (w .condition) f
 
     spans : (k : ℕ) → 0 < k → k ≤ 4 → Span m₁ k
     spans zero o h = absurd (omega arith)

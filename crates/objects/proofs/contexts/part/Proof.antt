@@ -1,6 +1,8 @@
 -- Each turn has its own reader.
 use native.Mathlib.Omega.{arith}
-use Rattle.objects.proofs.Laws.Contexts.{last-turn, part-is, key-part, value-part, type-part}
+use Rattle.objects.proofs.Laws.Contexts.{last-turn, key-part, value-part, type-part}
+use Rattle.objects.specs.Contexts.{contexts}
+use Rattle.objects.proofs.Laws.Gathering.{part-is}
 use borrow.Author.Needs.{needs}
 use Rattle.objects.proofs.contexts.part.Statement.{statement}
 use Rattle.objects.proofs.contexts.part.Tie as tie
@@ -18,7 +20,7 @@ returns : tie.Need-returns
 returns c =
     let at-call = c .before .before .before in
     let start = at-call .before .before .before .before .before in
-    part-is (start .args .s .now) (start .args .run .now) (at-call .key-name .last .1 .1 .0) (start .args .v)
+    part-is contexts (start .args .s .now) (start .args .run .now) (at-call .key-name .last .1 .1 .0) (start .args .v)
     (start .args .at) (at-call .before .before .if1 .taken) (c .laid .ensures)
     (key-part (start .args .s .now) (start .args .run .now) (at-call .key-name .last .1 .1 .0) (start .args .v)
     (start .args .at) (at-call .key-name .result) (omega (arith, start .pre .0 .room)) (at-call .key-name .ensures))
@@ -36,7 +38,7 @@ returns-2 : tie.Need-returns-2
 returns-2 c =
     let at-call = c .before .before .before in
     let start = at-call .before .before .before .before .before .before in
-    part-is (start .args .s .now) (start .args .run .now) (at-call .sole .last .1 .1 .0) (start .args .v)
+    part-is contexts (start .args .s .now) (start .args .run .now) (at-call .sole .last .1 .1 .0) (start .args .v)
     (start .args .at) (at-call .before .before .if2 .taken) (c .laid2 .ensures)
     (value-part (start .args .s .now) (start .args .run .now) (at-call .sole .last .1 .1 .0) (start .args .v)
     (start .args .at) (at-call .sole .result) (omega (arith, start .pre .0 .room)) (at-call .sole .ensures))
@@ -51,7 +53,7 @@ returns-3 : tie.Need-returns-3
 returns-3 c =
     let at-call = c .before in
     let start = at-call .before .before .before .before .before in
-    part-is (start .args .s .now) (start .args .run .now) (start .args .run .now) (start .args .v) (start .args .at)
+    part-is contexts (start .args .s .now) (start .args .run .now) (start .args .run .now) (start .args .v) (start .args .at)
     (last-turn (start .args .turn) (start .pre .1) (at-call .before .before .if1 .left) (at-call .before .if2 .left))
     (c .told .ensures)
     (type-part (start .args .s .now) (start .args .run .now) (start .args .v) (start .args .at)

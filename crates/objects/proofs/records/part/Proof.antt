@@ -1,6 +1,8 @@
 -- Each turn has its own reader.
 use native.Mathlib.Omega.{arith}
-use Rattle.objects.proofs.Laws.Records.{last-turn, part-is, action-part, resource-part, contexts-part}
+use Rattle.objects.proofs.Laws.Records.{last-turn, action-part, resource-part, contexts-part}
+use Rattle.objects.specs.Records.{records}
+use Rattle.objects.proofs.Laws.Gathering.{part-is}
 use borrow.Author.Needs.{needs}
 use Rattle.objects.proofs.records.part.Statement.{statement}
 use Rattle.objects.proofs.records.part.Tie as tie
@@ -18,7 +20,7 @@ returns : tie.Need-returns
 returns c =
     let at-call = c .before .before .before in
     let start = at-call .before .before .before .before .before in
-    part-is (start .args .s .now) (start .args .run .now) (at-call .action .last .1 .1 .0) (start .args .v)
+    part-is records (start .args .s .now) (start .args .run .now) (at-call .action .last .1 .1 .0) (start .args .v)
     (start .args .at)
     (at-call .before .before .if1 .taken) (c .laid .ensures)
     (action-part (start .args .s .now) (start .args .run .now) (at-call .action .last .1 .1 .0) (start .args .v)
@@ -37,7 +39,7 @@ returns-2 : tie.Need-returns-2
 returns-2 c =
     let at-call = c .before .before .before in
     let start = at-call .before .before .before .before .before .before in
-    part-is (start .args .s .now) (start .args .run .now) (at-call .resource .last .1 .1 .0) (start .args .v)
+    part-is records (start .args .s .now) (start .args .run .now) (at-call .resource .last .1 .1 .0) (start .args .v)
     (start .args .at)
     (at-call .before .before .if2 .taken) (c .laid2 .ensures)
     (resource-part (start .args .s .now) (start .args .run .now) (at-call .resource .last .1 .1 .0) (start .args .v)
@@ -56,7 +58,7 @@ returns-3 : tie.Need-returns-3
 returns-3 c =
     let at-call = c .before .before .before in
     let start = at-call .before .before .before .before .before .before in
-    part-is (start .args .s .now) (start .args .run .now) (at-call .contexts .last .1 .1 .0) (start .args .v)
+    part-is records (start .args .s .now) (start .args .run .now) (at-call .contexts .last .1 .1 .0) (start .args .v)
     (start .args .at)
     (last-turn (start .args .turn) (start .pre .1) (at-call .before .before .before .if1 .left)
     (at-call .before .before .if2 .left)) (c .laid3 .ensures)

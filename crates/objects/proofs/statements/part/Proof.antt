@@ -1,7 +1,9 @@
 -- Each turn has its own reader.
 use native.Mathlib.Omega.{arith}
-use Rattle.objects.proofs.Laws.Statements.{part-is, sid-part, action-part, resource-part, condition-part}
+use Rattle.objects.proofs.Laws.Statements.{sid-part, action-part, resource-part, condition-part}
 use Rattle.objects.proofs.Laws.Statements.{last-turn, effect-part}
+use Rattle.objects.specs.Statements.{statements}
+use Rattle.objects.proofs.Laws.Gathering.{part-is}
 use borrow.Author.Needs.{needs}
 use Rattle.objects.proofs.statements.part.Statement.{statement}
 use Rattle.objects.proofs.statements.part.Tie as tie
@@ -19,7 +21,7 @@ returns : tie.Need-returns
 returns c =
     let at-call = c .before .before .before in
     let start = at-call .before .before .before .before .before in
-    part-is (start .args .s .now) (start .args .run .now) (at-call .sid .last .1 .1 .0) (start .args .v)
+    part-is statements (start .args .s .now) (start .args .run .now) (at-call .sid .last .1 .1 .0) (start .args .v)
     (start .args .at)
     (at-call .before .before .if1 .taken) (c .laid .ensures)
     (sid-part (start .args .s .now) (start .args .run .now) (at-call .sid .last .1 .1 .0) (start .args .v)
@@ -38,7 +40,7 @@ returns-2 : tie.Need-returns-2
 returns-2 c =
     let at-call = c .before .before .before in
     let start = at-call .before .before .before .before .before .before in
-    part-is (start .args .s .now) (start .args .run .now) (at-call .entries .last .1 .1 .0) (start .args .v)
+    part-is statements (start .args .s .now) (start .args .run .now) (at-call .entries .last .1 .1 .0) (start .args .v)
     (start .args .at)
     (at-call .before .before .if2 .taken) (c .laid2 .ensures)
     (action-part (start .args .s .now) (start .args .run .now) (at-call .entries .last .1 .1 .0) (start .args .v)
@@ -57,7 +59,7 @@ returns-3 : tie.Need-returns-3
 returns-3 c =
     let at-call = c .before .before .before in
     let start = at-call .before .before .before .before .before .before .before in
-    part-is (start .args .s .now) (start .args .run .now) (at-call .entries2 .last .1 .1 .0) (start .args .v)
+    part-is statements (start .args .s .now) (start .args .run .now) (at-call .entries2 .last .1 .1 .0) (start .args .v)
     (start .args .at)
     (at-call .before .before .if3 .taken) (c .laid3 .ensures)
     (resource-part (start .args .s .now) (start .args .run .now) (at-call .entries2 .last .1 .1 .0) (start .args .v)
@@ -76,7 +78,7 @@ returns-4 : tie.Need-returns-4
 returns-4 c =
     let at-call = c .before .before .before in
     let start = at-call .before .before .before .before .before .before .before .before in
-    part-is (start .args .s .now) (start .args .run .now) (at-call .condition .last .1 .1 .0) (start .args .v)
+    part-is statements (start .args .s .now) (start .args .run .now) (at-call .condition .last .1 .1 .0) (start .args .v)
     (start .args .at)
     (at-call .before .before .if4 .taken) (c .laid4 .ensures)
     (condition-part (start .args .s .now) (start .args .run .now) (at-call .condition .last .1 .1 .0) (start .args .v)
@@ -92,7 +94,7 @@ returns-5 : tie.Need-returns-5
 returns-5 c =
     let at-call = c .before in
     let start = at-call .before .before .before .before .before .before .before in
-    part-is (start .args .s .now) (start .args .run .now) (start .args .run .now) (start .args .v) (start .args .at)
+    part-is statements (start .args .s .now) (start .args .run .now) (start .args .run .now) (start .args .v) (start .args .at)
     (last-turn (start .args .turn) (start .pre .1) (at-call .before .before .before .before .if1 .left)
     (at-call .before .before .before .if2 .left) (at-call .before .before .if3 .left) (at-call .before .if4 .left))
     (c .told .ensures)
