@@ -1,4 +1,5 @@
 pub mod Characters
+pub mod Each
 pub mod Forms
 pub mod Resources
 pub mod Same

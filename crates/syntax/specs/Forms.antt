@@ -6,9 +6,10 @@
 --                    a bare * or ? is a wildcard
 --   numberIn cs      plain digits without a leading zero, up to the greatest;  sameKey k l   equal but for ASCII case
 -- Differs from 01: nowhere.
+use mathlib.Core.Path.{_≡_}
 use mathlib.Core.Bool.{Bool, true, false}
 use mathlib.Core.List.{List, [], _∷_}
-use Prim.Native.Nat.{ℕ, zero, suc, _+_, _*_, _-_}
+use Prim.Native.Nat.{ℕ, zero, suc, _+_, _*_, _-_, _≤_, _<_}
 use lib.Dec.{eqb, leb, ltb}
 use lib.ListN.{length, getD}
 use Rattle.chars.specs.Base.{pick, within, oneOf}
@@ -29,6 +30,12 @@ either t u = pick t true u
 unfoldable pub all : (ℕ → Bool) → List ℕ → Bool
 all f [] = true
 all f (c ∷ cs) = both (f c) (all f cs)
+
+-- each character from place a up to place e passes the test f
+pub record Each (f : ℕ → Bool) (cs : List ℕ) (a e : ℕ) : Type 0 where
+  pub low : a ≤ e
+  pub high : e ≤ length cs
+  pub passes : (k : ℕ) → a ≤ k → k < e → f (getD cs k 0) ≡ true
 
 unfoldable pub same : List ℕ → List ℕ → Bool
 same [] [] = true

@@ -1,9 +1,10 @@
 // Forms of texts: what decoded characters are.
 ghost use mathlib.Core.Path.{_≡_};
+ghost use mathlib.Core.Bool.{true};
 ghost use mathlib.Core.List.{[], _∷_};
-ghost use Prim.Native.Nat.{_≤_};
+ghost use Prim.Native.Nat.{_+_, _≤_};
 ghost use lib.ListN.{length, getD, drop};
-ghost use Rattle.syntax.specs.Forms.{same, isAlphanumeric, isVendorChar, isNameChar, isName, isVendor, isAction};
+ghost use Rattle.syntax.specs.Forms.{Each, same, isAlphanumeric, isVendorChar, isNameChar, isName, isVendor, isAction};
 ghost use Rattle.syntax.specs.Forms.{colons, isArn, isResource, isSid, isKeyChar, isKey, lower, sameKey};
 
 // They stand for * and ? where these are wildcards; no character has these numbers.
@@ -14,15 +15,11 @@ pub const ANY: u32 = 1114113;
 // Characters of a Sid.
 const SID: usize = 64;
 
+// Without branches, so that eight at once are tested as one.
 fn is_alphanumeric(c: u32) -> bool
     ensures { λ r. ⌜ r ≡ isAlphanumeric c ⌝ }
 {
-    match c {
-        48..=57 => true,
-        65..=90 => true,
-        97..=122 => true,
-        _ => false,
-    }
+    ((47 < c) & (c < 58)) | ((64 < c) & (c < 91)) | ((96 < c) & (c < 123))
 }
 
 pub fn is_vendor_char(c: u32) -> bool
@@ -58,6 +55,57 @@ fn is_key_char(c: u32) -> bool
     }
 }
 
+// Are the eight characters from a place on letters and digits?
+fn alphanumeric_eight(cs: &[u32], at: usize) -> bool
+    requires { ⌜ at + 8 ≤ length (now cs) ⌝ }
+    ensures { λ r. ⌜ (r ≡ true → Each isAlphanumeric (now (cs .entry)) at (at + 8)) ⌝ }
+{
+    let mut all = true;
+    let mut j = 0;
+    while j < 8 {
+        all = all & is_alphanumeric(cs[at + j]);
+        j += 1;
+    }
+    all
+}
+
+// Past some of the letters and digits, eight by eight; the last eight may overlap those before them.
+fn past_eights(cs: &[u32], at: usize) -> usize
+    requires { ⌜ at ≤ length (now cs) ⌝ }
+    ensures { λ r. ⌜ Each isAlphanumeric (now (cs .entry)) at r ⌝ }
+{
+    if cs.len() - at < 8 {
+        return at;
+    }
+    let last = cs.len() - 8;
+    let mut i = at;
+    while i < last {
+        if !alphanumeric_eight(cs, i) {
+            return i;
+        }
+        i += 8;
+    }
+    if !alphanumeric_eight(cs, last) {
+        return i;
+    }
+    cs.len()
+}
+
+// Past letters and digits, one by one: most vendors are short.
+fn past_alphanumeric(cs: &[u32], at: usize) -> usize
+    requires { ⌜ at ≤ length (now cs) ⌝ }
+    ensures { λ r. ⌜ Each isAlphanumeric (now (cs .entry)) at r ⌝ }
+{
+    let mut i = at;
+    while i < cs.len() {
+        if !is_alphanumeric(cs[i]) {
+            return i;
+        }
+        i += 1;
+    }
+    i
+}
+
 // The name of an action from a place on.
 fn is_name(cs: &[u32], at: usize) -> bool
     ensures { λ r. ⌜ r ≡ isName (drop at (now (cs .entry))) ⌝ }
@@ -65,7 +113,7 @@ fn is_name(cs: &[u32], at: usize) -> bool
     if cs.len() <= at {
         return false;
     }
-    let mut i = at;
+    let mut i = past_eights(cs, at);
     while i < cs.len() {
         if !is_name_char(cs[i]) {
             return false;
@@ -84,7 +132,7 @@ pub fn is_vendor(cs: &[u32]) -> bool
     if !is_vendor_char(cs[0]) {
         return false;
     }
-    let mut i = 1;
+    let mut i = past_alphanumeric(cs, 1);
     while i < cs.len() {
         let c = cs[i];
         if c == 58 {
@@ -125,7 +173,7 @@ pub fn is_sid(cs: &[u32]) -> bool
     if SID < cs.len() {
         return false;
     }
-    let mut i = 0;
+    let mut i = past_eights(cs, 0);
     while i < cs.len() {
         if !is_alphanumeric(cs[i]) {
             return false;

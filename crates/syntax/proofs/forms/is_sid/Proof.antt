@@ -4,6 +4,7 @@ use Prim.Native.Nat.{_-_}
 use lib.ListN.{length, drop}
 use Rattle.syntax.specs.Forms.{all, isSid, isAlphanumeric}
 use Rattle.syntax.proofs.Laws.Forms.{sid-none, sid-long, sid-some, all-next, all-stop, all-end}
+use Rattle.syntax.proofs.Laws.Each.{each-alphanumeric}
 use borrow.Author.Tests.{not-true, not-false}
 use borrow.Author.Needs.{needs}
 use Rattle.syntax.proofs.forms.is_sid.Statement.{statement}
@@ -21,8 +22,14 @@ returns c = sym (sid-none (c .before .before .args .cs .now) (c .if1 .taken))
 returns-2 : tie.Need-returns-2 Inv-loop μ-loop
 returns-2 c = sym (sid-long (c .before .before .before .args .cs .now) (c .if2 .taken))
 
+past-eights-requires : tie.Need-past-eights-requires Inv-loop μ-loop
+past-eights-requires c κs = search needs
+
 loop-holds : tie.Need-loop-holds Inv-loop μ-loop
-loop-holds c = sid-some (c .before .before .before .args .cs .now) (c .before .if1 .left) (c .if2 .left)
+loop-holds c =
+    let cs = c .before .before .before .before .args .cs .now in
+    sid-some cs (c .before .before .if1 .left) (c .before .if2 .left)
+    ∙ each-alphanumeric cs (c .past-eights .ensures)
 
 mul-is-alphanumeric : tie.Need-mul-is-alphanumeric Inv-loop μ-loop
 mul-is-alphanumeric c = search needs
@@ -36,7 +43,7 @@ is-alphanumeric-requires c κs = search needs
 returns-3 : tie.Need-returns-3 Inv-loop μ-loop
 returns-3 c =
     let turn = c .before .before .before in
-    let cs = turn .before .before .before .before .before .args .cs .now in
+    let cs = turn .before .before .before .before .before .before .args .cs .now in
     sym (turn .before .loop .inv ∙ all-stop isAlphanumeric cs (turn .before .loop .i) (turn .loop-test .taken)
     (sym (c .before .is-alphanumeric .ensures) ∙ not-true _ (c .if3 .taken)))
 
@@ -49,13 +56,13 @@ loop-less c = search needs
 loop-again : tie.Need-loop-again Inv-loop μ-loop
 loop-again c =
     let turn = c .before .before .before in
-    let cs = turn .before .before .before .before .before .args .cs .now in
+    let cs = turn .before .before .before .before .before .before .args .cs .now in
     turn .before .loop .inv ∙ all-next isAlphanumeric cs (turn .before .loop .i) (turn .loop-test .taken)
     (sym (c .before .is-alphanumeric .ensures) ∙ not-false _ (c .if3 .left))
 
 returns-4 : tie.Need-returns-4 Inv-loop μ-loop
 returns-4 c =
-    let cs = c .before .before .before .before .before .args .cs .now in
+    let cs = c .before .before .before .before .before .before .args .cs .now in
     sym (c .before .loop .inv ∙ all-end isAlphanumeric cs (c .before .loop .i) (c .loop-test .left))
 
 pub is-sid-spec : {M : Type 1} → statement M
@@ -66,6 +73,7 @@ is-sid-spec =
     μ-loop
     returns
     returns-2
+    past-eights-requires
     loop-holds
     mul-is-alphanumeric
     shared-slice-read-is-alphanumeric

@@ -5,6 +5,7 @@ use lib.ListN.{length, drop}
 use Rattle.syntax.specs.Forms.{isVendor, isVendorTail}
 use Rattle.syntax.proofs.Laws.Forms.{vendor-none, vendor-first, vendor-stop}
 use Rattle.syntax.proofs.Laws.Forms.{tail-colon, tail-next, tail-stop, tail-end}
+use Rattle.syntax.proofs.Laws.Each.{each-tail}
 use borrow.Author.Tests.{not-true, not-false}
 use borrow.Author.Needs.{needs}
 use Rattle.syntax.proofs.forms.is_vendor.Statement.{statement}
@@ -31,11 +32,15 @@ returns-2 c =
     sym (vendor-stop cs (c .before .before .before .if1 .left)
     (sym (c .before .is-vendor-char .ensures) ∙ not-true _ (c .if2 .taken)))
 
+past-alphanumeric-requires : tie.Need-past-alphanumeric-requires Inv-loop μ-loop
+past-alphanumeric-requires c κs = search needs
+
 loop-holds : tie.Need-loop-holds Inv-loop μ-loop
 loop-holds c =
-    let cs = c .before .before .before .before .before .args .cs .now in
-    vendor-first cs (c .before .before .before .if1 .left)
-    (sym (c .before .is-vendor-char .ensures) ∙ not-false _ (c .if2 .left))
+    let cs = c .before .before .before .before .before .before .args .cs .now in
+    vendor-first cs (c .before .before .before .before .if1 .left)
+    (sym (c .before .before .is-vendor-char .ensures) ∙ not-false _ (c .before .if2 .left))
+    ∙ each-tail cs (c .past-alphanumeric .ensures)
 
 mul-c : tie.Need-mul-c Inv-loop μ-loop
 mul-c c = search needs
@@ -52,7 +57,7 @@ is-name-requires c κs = search needs
 returns-3 : tie.Need-returns-3 Inv-loop μ-loop
 returns-3 c =
     let turn = c .before .before .before in
-    let cs = turn .before .before .before .before .before .before .before .args .cs .now in
+    let cs = turn .before .before .before .before .before .before .before .before .args .cs .now in
     c .is-name .ensures ∙ sym (turn .before .loop .inv ∙ tail-colon cs (turn .before .loop .i)
     (turn .loop-test .taken) (c .before .if3 .taken))
 
@@ -62,7 +67,7 @@ is-vendor-char-requires-2 c κs = search needs
 returns-4 : tie.Need-returns-4 Inv-loop μ-loop
 returns-4 c =
     let turn = c .before .before .before .before in
-    let cs = turn .before .before .before .before .before .before .before .args .cs .now in
+    let cs = turn .before .before .before .before .before .before .before .before .args .cs .now in
     sym (turn .before .loop .inv ∙ tail-stop cs (turn .before .loop .i) (turn .loop-test .taken)
     (c .before .before .if3 .left) (sym (c .before .is-vendor-char2 .ensures) ∙ not-true _ (c .if4 .taken)))
 
@@ -75,13 +80,13 @@ loop-less c = search needs
 loop-again : tie.Need-loop-again Inv-loop μ-loop
 loop-again c =
     let turn = c .before .before .before .before in
-    let cs = turn .before .before .before .before .before .before .before .args .cs .now in
+    let cs = turn .before .before .before .before .before .before .before .before .args .cs .now in
     turn .before .loop .inv ∙ tail-next cs (turn .before .loop .i) (turn .loop-test .taken)
     (c .before .before .if3 .left) (sym (c .before .is-vendor-char2 .ensures) ∙ not-false _ (c .if4 .left))
 
 returns-5 : tie.Need-returns-5 Inv-loop μ-loop
 returns-5 c =
-    let cs = c .before .before .before .before .before .before .before .args .cs .now in
+    let cs = c .before .before .before .before .before .before .before .before .args .cs .now in
     sym (c .before .loop .inv ∙ tail-end cs (c .before .loop .i) (c .loop-test .left))
 
 pub is-vendor-spec : {M : Type 1} → statement M
@@ -94,6 +99,7 @@ is-vendor-spec =
     shared-slice-read-is-vendor-char
     is-vendor-char-requires
     returns-2
+    past-alphanumeric-requires
     loop-holds
     mul-c
     shared-slice-read-c
