@@ -1,5 +1,6 @@
 pub mod Runs
 pub mod RunsWalk
+pub mod Placed
 pub mod RunsStatement
 pub mod Places
 pub mod Coming

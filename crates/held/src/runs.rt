@@ -9,7 +9,7 @@ ghost use Rattle.syntax.specs.PolicyLayout.{sameRow, sameSid};
 ghost use Rattle.held.specs.Held.{heldEach, heldList, heldValue, heldRow, heldStatement, held};
 ghost use Rattle.held.specs.Held.{anyOf, longValue, rowOver, rowEntries, rowsOver};
 ghost use Rattle.held.specs.Held.{statementOver, statementEntries, overLimit};
-ghost use Rattle.held.specs.Lying.{Lies, Lying, LyingMany, Passes};
+ghost use Rattle.held.specs.Lying.{Lies, Lying, LyingMany, Placed, PlacedMany, Passes};
 use crate::limits;
 use syntax::forms;
 
@@ -207,6 +207,21 @@ pub fn has_sid(run: &[u32], at: usize, n: usize, p: usize) -> bool
             return true;
         }
         q = statement(run, q).past;
+        i = i + 1;
+    }
+    false
+}
+
+// Has one of the n statements at the places the Sid of the statement at p?
+pub fn has_sid_at(run: &[u32], places: [usize; 16], n: usize, p: usize) -> bool
+    requires { ⌜ (PlacedMany heldStatement (now run) places n) × (Lying heldStatement (now run) p) ⌝ }
+    ensures { λ r. ⌜ ((e : ℕ) (xs : List Statement) (x : Statement) → Placed heldStatement (now (run .entry)) places n e xs → Lies (now (run .entry)) p (heldStatement x) → r ≡ hasLike sameSid x xs) ⌝ }
+{
+    let mut i = 0usize;
+    while i < n {
+        if same_sid_at(run, p, places[i]) {
+            return true;
+        }
         i = i + 1;
     }
     false
