@@ -4,9 +4,11 @@ pub mod Moves
 pub mod Places
 pub mod Plain
 pub mod Values
+pub mod Quick
 pub mod Parts
 pub mod Eating
 pub mod Numbers
+pub mod Onward
 pub mod Chars
 pub mod Ends
 pub mod Spaces
@@ -20,6 +22,7 @@ pub mod Levels
 pub mod Stable
 pub mod Verdict
 pub mod Contents
+pub mod Resuming
 pub mod Seeking
 pub mod Skipping
 pub mod Meaning

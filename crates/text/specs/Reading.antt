@@ -7,13 +7,14 @@ use mathlib.Core.Path.{_≡_}
 use mathlib.Core.Bool.{Bool, true, false}
 use mathlib.Core.List.{List, [], _∷_, _++_}
 use Prim.Native.Nat.{ℕ, _-_, _≤_, _<_}
-use lib.ListN.{length}
-use Rattle.text.specs.Machine.{Item, pass, go, ws, value, first, next, inner, move, from}
+use lib.ListN.{length, getD}
+use Rattle.text.specs.Machine.{Item, pass, go, ws, text, value, first, next, inner, move, from}
 use Rattle.text.specs.declared.verdict.Verdict.{Verdict}
 use Rattle.text.specs.declared.verdict.Verdict.the-variants.{Whole, Breaks, Deep}
 use Rattle.text.specs.declared.verdict.Part.{Part}
 use Rattle.text.specs.declared.verdict.Part.the-variants.{Past, Fails}
 use Rattle.text.specs.declared.scan.Shape.{Shape}
+use Rattle.text.specs.declared.scan.Shape.the-variants.{List as list}
 use Rattle.text.specs.declared.scan.Begun.{Begun}
 use Rattle.text.specs.declared.scan.Begun.the-variants.{Ends, Inner}
 use Rattle.text.specs.declared.scan.Next.{Next}
@@ -46,6 +47,28 @@ pub record Blank (b : ℕ) (t : Bool) : Type 0 where
 abbrev pub Goes : List ℕ → List Item → ℕ → Part → Type 0
 Goes s xs a (Past i) = Done s xs a i
 Goes s xs a (Fails v) = Falls s xs a v
+
+-- what a quick way tells: where the items are done; of 0 it tells nothing
+pub record Quick (s : List ℕ) (xs : List Item) (a r : ℕ) : Type 0 where
+  pub done : (r ≡ 0 → ⊥) → Done s xs a r
+
+-- of a string it also tells that a quote stands before that place
+pub record Quoted (s : List ℕ) (a r : ℕ) : Type 0 where
+  pub done : (r ≡ 0 → ⊥) → Done s (text ∷ []) a r
+  pub quote : (r ≡ 0 → ⊥) → getD s (r - 1) 0 ≡ 34
+
+-- behind an opening bracket, however many levels are left: the list ends; or, behind a comma, more of it is owed
+pub record Listed (s : List ℕ) (a r : ℕ) : Type 0 where
+  pub high : (r ≡ 0 → ⊥) → r ≤ length s
+  pub ended : (n : ℕ) → (r ≡ 0 → ⊥) → (getD s (r - 1) 0 ≡ 44 → ⊥) → Done s (ws ∷ first list n ∷ []) a r
+  pub more : (n : ℕ) → (r ≡ 0 → ⊥) → getD s (r - 1) 0 ≡ 44 → Leads s (ws ∷ first list n ∷ []) a (ws ∷ inner list n) r
+
+-- likewise of a value: it ends, or more of a list is owed, for which a level was left
+pub record Fronts (s : List ℕ) (n a r : ℕ) : Type 0 where
+  pub high : (r ≡ 0 → ⊥) → r ≤ length s
+  pub ended : (r ≡ 0 → ⊥) → (getD s (r - 1) 0 ≡ 44 → ⊥) → Done s (value n ∷ []) a r
+  pub left : (r ≡ 0 → ⊥) → getD s (r - 1) 0 ≡ 44 → 0 < n
+  pub more : (r ≡ 0 → ⊥) → getD s (r - 1) 0 ≡ 44 → Leads s (value n ∷ []) a (ws ∷ inner list (n - 1)) r
 
 -- behind an opening bracket or brace, however many levels are left
 abbrev pub Opened : List ℕ → Shape → ℕ → Begun → ℕ → Type 0

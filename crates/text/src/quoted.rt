@@ -7,6 +7,7 @@ ghost use lib.ListN.{length, replicate};
 ghost use Rattle.chars.specs.Base.{At};
 ghost use Rattle.text.specs.Machine.{range, hex, text, char, move, go, escape};
 ghost use Rattle.text.specs.Reading.{Leads, Goes};
+use crate::special;
 use crate::verdict::Part;
 use crate::verdict::Verdict;
 
@@ -137,12 +138,30 @@ fn plain_eights(s: &[u8], at: usize) -> usize
     i
 }
 
+// Past those of the eight bytes from a place on that come before the first special one.
+fn plain_of_eight(s: &[u8], at: usize) -> usize
+    requires { ⌜ at + 8 ≤ length (now s) ⌝ }
+    ensures { λ r. ⌜ Leads (now (s .entry)) (text ∷ []) at (text ∷ []) r ⌝ }
+{
+    let mut j = 0;
+    while j < 8 {
+        if special(s[at + j]) {
+            return at + j;
+        }
+        j += 1;
+    }
+    at + 8
+}
+
 // Past bytes that are not special.
-fn plain(s: &[u8], at: usize) -> usize
+pub fn plain(s: &[u8], at: usize) -> usize
     requires { ⌜ at ≤ length (now s) ⌝ }
     ensures { λ r. ⌜ Leads (now (s .entry)) (text ∷ []) at (text ∷ []) r ⌝ }
 {
     let mut i = plain_eights(s, at);
+    if 8 <= s.len() - i {
+        return plain_of_eight(s, i);
+    }
     while i < s.len() {
         if special(s[i]) {
             return i;
@@ -159,7 +178,8 @@ pub fn string(s: &[u8], at: usize) -> Part
 {
     let mut i = at;
     loop {
-        let j = plain(s, i);
+        let p = plain(s, i);
+        let j = special::characters(s, p);
         if s.len() <= j {
             return Part::Fails(Verdict::Breaks(j));
         }

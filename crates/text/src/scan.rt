@@ -7,6 +7,7 @@ ghost use lib.ListN.{length};
 ghost use Rattle.text.specs.Machine.{ws, byte, text, value, before, close, verdict};
 ghost use Rattle.text.specs.Reading.{Done, Goes, Begins, Opens, Follows};
 use crate::numbers;
+use crate::quick;
 use crate::quoted;
 use crate::verdict::Part;
 use crate::verdict::Verdict;
@@ -117,13 +118,17 @@ fn closer(shape: Shape) -> u8
 }
 
 // What stands before an inner value: in a list nothing, in an object a member's name and a colon.
-fn heading(s: &[u8], at: usize, shape: Shape) -> Part
+pub fn heading(s: &[u8], at: usize, shape: Shape) -> Part
     requires { ⌜ at ≤ length (now s) ⌝ }
     ensures { λ r. ⌜ Goes (now (s .entry)) (before shape) at r ⌝ }
 {
     let Shape::Object = shape else {
         return Part::Past(at);
     };
+    let m = quick::member(s, at);
+    if m != 0 {
+        return Part::Past(m);
+    }
     if s.len() <= at {
         return Part::Fails(Verdict::Breaks(at));
     }
@@ -212,33 +217,50 @@ pub fn follow(s: &[u8], at: usize, shape: Shape) -> Next
     }
 }
 
-// The value at a place, where at most so many levels may be opened.
+// The value at a place, where at most so many levels may be opened. What the quick way read of a list up to a comma
+// is gone on with behind it.
 pub fn value(s: &[u8], at: usize, left: usize) -> Part
     requires { ⌜ at ≤ length (now s) ⌝ }
     ensures { λ r. ⌜ Goes (now (s .entry)) (value left ∷ []) at r ⌝ }
 {
-    let b = begin(s, at, left);
-    match b {
-        Begun::Ends(p) => p,
-        Begun::Inner { at: first, shape } => {
-            let mut i = first;
-            loop {
-                let r = value(s, i, left - 1);
-                let Part::Past(n) = r else {
-                    return r;
-                };
-                let q = follow(s, n, shape);
-                match q {
-                    Next::Inner(m) => {
-                        i = m;
-                    }
-                    Next::Closed(e) => {
-                        return Part::Past(e);
-                    }
-                    Next::Fails(v) => {
-                        return Part::Fails(v);
-                    }
-                }
+    let e = quick::front(s, at, left);
+    let mut i = e;
+    let mut shape = Shape::List;
+    if e == 0 {
+        let b = begin(s, at, left);
+        match b {
+            Begun::Ends(p) => {
+                return p;
+            }
+            Begun::Inner {
+                at: first,
+                shape: found,
+            } => {
+                i = first;
+                shape = found;
+            }
+        }
+    } else {
+        if s[e - 1] != 44 {
+            return Part::Past(e);
+        }
+        i = space(s, e);
+    }
+    loop {
+        let r = value(s, i, left - 1);
+        let Part::Past(n) = r else {
+            return r;
+        };
+        let q = follow(s, n, shape);
+        match q {
+            Next::Inner(m) => {
+                i = m;
+            }
+            Next::Closed(e) => {
+                return Part::Past(e);
+            }
+            Next::Fails(v) => {
+                return Part::Fails(v);
             }
         }
     }

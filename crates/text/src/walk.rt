@@ -197,7 +197,7 @@ pub fn next_element(s: &[u8], i: usize) -> Element
 }
 
 // The member whose name's opening quote stands at a place.
-fn entry(s: &[u8], i: usize) -> Member
+pub fn entry(s: &[u8], i: usize) -> Member
     requires { ⌜ Entering (now s) i ⌝ }
     ensures { λ r. ⌜ ((ms : Members) (e : ℕ) → Entry (now (s .entry)) ms i e → Leads (now (s .entry)) i ms e r) ⌝ }
 {

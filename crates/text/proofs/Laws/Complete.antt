@@ -5,7 +5,8 @@ use Prim.Native.Nat.{ℕ, zero, suc, _+_, _≤_}
 use native.Mathlib.Omega.{arith}
 use lib.ListN.{length, getD, drop}
 use Rattle.chars.specs.Base.{At, oneOf}
-use Rattle.text.specs.Json.{depth, depths, depthm, Space, zero, Spelt, Quoted, Piece, a-value, elements, rest}
+use Rattle.text.specs.Json.{Json, Values, Members, string, list, object, depth, depths, depthm, Space, zero}
+use Rattle.text.specs.Json.{Spelt, Quoted, Piece, a-value, elements, rest}
 use Rattle.text.specs.Json.{members, more, Reads, a-null, a-true, a-false, a-number, a-string, empty-list}
 use Rattle.text.specs.Json.{some-list, element, close-list, comma-list, empty-object, some-object, member}
 use Rattle.text.specs.Json.{close-object, comma-object}
@@ -147,6 +148,32 @@ reads-done n (member {t = t} {ms = ms} q w o x v r) h c =
     (reads-done n r (omega arith) tt)))))
 reads-done n (close-object w p) h c = close-done an-object n w p refl
 reads-done n (comma-object w o x r) h c = comma-done an-object n w o x (members-start r) refl (reads-done n r h tt)
+
+-- what is no number, true, false or null ends with a byte of its own, whatever follows
+pub data Shut : Json → Type 0 where
+  shut-text : {w : List ℕ} → Shut (string w)
+  shut-list : {ts : Values} → Shut (list ts)
+  shut-object : {ms : Members} → Shut (object ms)
+
+pub shut-done : {s : List ℕ} {t : Json} {i e : ℕ} (n : ℕ) → Shut t → Reads s (a-value t) i e → depth t ≤ n
+    → Done s (value n ∷ []) i e
+unfolding depth move oneOf
+shut-done {s} n shut-text (a-string {i} p) h =
+    seq (alike (value n ∷ []) (byte 34 ∷ text ∷ []) (p .opens .inside) (quote-begins n (getD s i 0) (p .opens .is)))
+    (quoted-done p)
+shut-done zero shut-list (empty-list o w p) h = absurd (omega arith)
+shut-done (suc n) shut-list (empty-list o w p) h =
+    open-done a-list n 93 o w p refl (takes-at (first a-list n) [] p [] (first-close 93 a-list n refl))
+shut-done zero shut-list (some-list o w r) h = absurd (omega arith)
+shut-done (suc n) shut-list (some-list o w r) h =
+    let v = elements-start r in
+    open-done a-list n (v .first) o w (v .at) (v .black) (enter-list n v (reads-done n r (omega arith) tt))
+shut-done zero shut-object (empty-object o w p) h = absurd (omega arith)
+shut-done (suc n) shut-object (empty-object o w p) h =
+    open-done an-object n 125 o w p refl (takes-at (first an-object n) [] p [] (first-close 125 an-object n refl))
+shut-done zero shut-object (some-object o w r) h = absurd (omega arith)
+shut-done (suc n) shut-object (some-object o w r) h =
+    let v = members-start r in open-done an-object n 34 o w v refl (enter-object n v (reads-done n r (omega arith) tt))
 
 -- a JSON text of at most n levels is whole for the twin
 pub text-complete : (n : ℕ) (s : List ℕ) → Text n s → verdictAt n s ≡ Whole

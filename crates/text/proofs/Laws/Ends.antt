@@ -50,7 +50,7 @@ ends-white p carriage-return = ends-byte 13 p (inl (inl (omega arith)))
 ends-white p space = ends-byte 32 p (inl (inl (omega arith)))
 
 -- a byte of structure ends a number, with white space before it or without
-ends-space : {s : List ℕ} {i e : ℕ} (b : ℕ) → (b < 46 ⊎ 101 < b) ⊎ (b ≡ 93) → Space s i e → At s e b → Ends s i
+pub ends-space : {s : List ℕ} {i e : ℕ} (b : ℕ) → (b < 46 ⊎ 101 < b) ⊎ (b ≡ 93) → Space s i e → At s e b → Ends s i
 ends-space b h (no-space g) p = ends-byte b p h
 ends-space b h (white q v r) p = ends-white q v
 

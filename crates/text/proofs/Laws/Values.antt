@@ -59,7 +59,7 @@ module _ {s : List ℕ} {sh : Shape} {a i : ℕ} (w : Done s (ws ∷ []) a i) wh
   opened-empty h e =
       record { at-any = λ n. seq (to-first n) (takes (first sh n) [] [] h (first-close (getD s i 0) sh n e)) }
 
-  to-inner : i < length s → (getD s i 0 ≡ close sh → ⊥) → (n : ℕ)
+  pub to-inner : i < length s → (getD s i 0 ≡ close sh → ⊥) → (n : ℕ)
       → Leads s (ws ∷ first sh n ∷ []) a (before sh ++ inner sh n) i
   to-inner h e n =
       seq (to-first n) (alike (first sh n ∷ []) (before sh ++ inner sh n) h (first-enters (getD s i 0) sh n e))
@@ -84,7 +84,7 @@ module _ {s : List ℕ} {n i : ℕ} (sh : Shape) (h : i < length s) (o : getD s 
   pub begins-deep : n ≡ 0 → Begins s n i (Ends (Fails Deep))
   begins-deep z = sinks (value n) [] h (value-opens (getD s i 0) n sh o ∙ ap (opens sh) z)
 
-  to-opened : (n ≡ 0 → ⊥) → Leads s (value n ∷ []) i (ws ∷ first sh (n - 1) ∷ []) (i + 1)
+  pub to-opened : (n ≡ 0 → ⊥) → Leads s (value n ∷ []) i (ws ∷ first sh (n - 1) ∷ []) (i + 1)
   to-opened z = takes (value n) [] (ws ∷ first sh (n - 1) ∷ []) h (value-opens (getD s i 0) n sh o ∙ opens-more sh n z)
 
   pub begins-opened : (r : Begun) → (n ≡ 0 → ⊥) → Opens s sh (i + 1) r → Begins s n i r
