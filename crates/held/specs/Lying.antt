@@ -1,7 +1,7 @@
 -- Lying: what lies in a held run, for whoever walks over it.
 --   Lies run p xs     the numbers xs lie in the run from place p on
 --   Lying, LyingMany  a thing lies there, or n things one behind the other, each held by h
---   Placed, PlacedMany   n things, each at its own one of 16 places; all end up to place e
+--   Placed, PlacedMany   n things, each at its own one of 64 places; all end up to place e
 --   Passes ..         a walk over things: the place behind them, how many entries they have, whether a limit is passed
 use mathlib.Core.Path.{_≡_}
 use mathlib.Core.Bool.{Bool}
@@ -35,11 +35,11 @@ pub data PlacedFrom {A : Type 0} (h : A → List ℕ) (run places : List ℕ) (e
   more : {i : ℕ} {x : A} {xs : List A} → Lies run (getD places i 0) (h x) → getD places i 0 + length (h x) ≤ e
       → PlacedFrom h run places e (i + 1) xs → PlacedFrom h run places e i (x ∷ xs)
 
--- n things lie at the first of 16 places
+-- n things lie at the first of 64 places
 pub record Placed {A : Type 0} (h : A → List ℕ) (run places : List ℕ) (n e : ℕ) (things : List A) : Type 0 where
   pub count : n ≡ length things
-  pub few : n ≤ 16
-  pub size : length places ≡ 16
+  pub few : n ≤ 64
+  pub size : length places ≡ 64
   pub each : PlacedFrom h run places e 0 things
 
 pub record PlacedMany {A : Type 0} (h : A → List ℕ) (run places : List ℕ) (n : ℕ) : Type 0 where

@@ -213,7 +213,7 @@ pub fn has_sid(run: &[u32], at: usize, n: usize, p: usize) -> bool
 }
 
 // Has one of the n statements at the places the Sid of the statement at p?
-pub fn has_sid_at(run: &[u32], places: [usize; 16], n: usize, p: usize) -> bool
+pub fn has_sid_at(run: &[u32], places: [usize; 64], n: usize, p: usize) -> bool
     requires { ⌜ (PlacedMany heldStatement (now run) places n) × (Lying heldStatement (now run) p) ⌝ }
     ensures { λ r. ⌜ ((e : ℕ) (xs : List Statement) (x : Statement) → Placed heldStatement (now (run .entry)) places n e xs → Lies (now (run .entry)) p (heldStatement x) → r ≡ hasLike sameSid x xs) ⌝ }
 {

@@ -2,6 +2,9 @@
 pub mod Contexts
 pub mod Filling
 pub mod Gathering
+pub mod Leaving
+pub mod Listed
+pub mod Left
 pub mod Policies
 pub mod Records
 pub mod Settling

@@ -2,6 +2,7 @@
 pub mod Contexts
 pub mod Filling
 pub mod Gathering
+pub mod Leaving
 pub mod Records
 pub mod Spans
 pub mod Statements

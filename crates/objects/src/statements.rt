@@ -9,9 +9,11 @@ ghost use Rattle.parts.specs.Holding.{Laid};
 ghost use Rattle.straight.specs.Marks.{Unless};
 ghost use Rattle.straight.specs.Taking.{Takes};
 ghost use Rattle.objects.specs.Telling.{TellsTo, effectNamed};
-ghost use Rattle.objects.specs.Gathering.{Names, Parts, Gathers};
+ghost use Rattle.objects.specs.Gathering.{Names, Parts};
+ghost use Rattle.objects.specs.Leaving.{GathersOr, Begins, States};
 ghost use Rattle.objects.specs.Statements.{statements, Begun, WithSid, Slots, statementFrom, Sorted, Sorting};
 use crate::filling;
+use crate::leaving::Stated;
 use crate::members;
 use crate::members::Part;
 use crate::members::Which;
@@ -100,12 +102,14 @@ fn part(s: &[u8], v: usize, run: &mut [u32], at: usize, turn: usize) -> Part
     members::told(effect_at(s, v), at)
 }
 
-// The members from the first name on, each held where the walk comes to it.
+// The members from the first name on, each held where the walk comes to it. Where one is given up, the second number is
+// the place of its name.
 fn gathered(s: &[u8], first: usize, run: &mut [u32], at: usize) -> [usize; 12]
     requires { ⌜ (first ≤ length (now s)) × (Roomy (now run) at 0) ⌝ }
-    ensures { λ r. ⌜ Gathers statements (now (s .entry)) (now (run .entry)) (now (run .exit)) first at r ⌝ }
+    ensures { λ r. ⌜ GathersOr statements (now (s .entry)) (now (run .entry)) (now (run .exit)) first at r ⌝ }
 {
     let mut spans = [0usize; 12];
+    spans[1] = first;
     let mut i = first;
     let mut p = at;
     loop {
@@ -131,10 +135,14 @@ fn gathered(s: &[u8], first: usize, run: &mut [u32], at: usize) -> [usize; 12]
         p = past;
         let c = marks::parted(s, end, 44);
         if c == 0 {
-            spans[0] = marks::closed(s, end, 125);
-            spans[1] = p;
+            let e = marks::closed(s, end, 125);
+            if e != 0 {
+                spans[0] = e;
+                spans[1] = p;
+            }
             return spans;
         }
+        spans[1] = c;
         i = c;
     }
 }
@@ -195,29 +203,49 @@ fn arranged(run: &mut [u32], spans: [usize; 12], at: usize) -> usize
     past
 }
 
-pub fn statement(s: &[u8], v: usize, run: &mut [u32], at: usize) -> Ended
-    requires { ⌜ Roomy (now run) at 0 ⌝ }
-    ensures { λ r. ⌜ Takes heldStatement statementOf 4 (now (s .entry)) (now (run .entry)) (now (run .exit)) v at r ⌝ }
+// The place of an object's first name; 0 where none stands there.
+fn first_name(s: &[u8], v: usize) -> usize
+    ensures { λ r. ⌜ Unless r (Begins (now (s .entry)) v r) ⌝ }
 {
-    if run.len() - at < 2 {
-        return Ended::Wrong;
-    }
     let i = marks::opened(s, v, 123);
     if i == 0 {
-        return Ended::Wrong;
+        return 0;
+    }
+    if s.len() <= i {
+        return 0;
+    }
+    if s[i] != 34 {
+        return 0;
+    }
+    i
+}
+
+pub fn statement(s: &[u8], v: usize, run: &mut [u32], at: usize) -> Stated
+    requires { ⌜ Roomy (now run) at 0 ⌝ }
+    ensures { λ r. ⌜ States (now (s .entry)) (now (run .entry)) (now (run .exit)) v at r ⌝ }
+{
+    if run.len() - at < 2 {
+        return Stated::Wrong;
+    }
+    let i = first_name(s, v);
+    if i == 0 {
+        return Stated::Wrong;
     }
     let base = begun(s, i, run, at);
     let spans = gathered(s, i, run, base);
+    if spans[0] == 0 {
+        return Stated::Left(spans[1]);
+    }
     let sid = with_sid(spans, at, base);
     let end = sid[0];
     if end == 0 {
-        return Ended::Wrong;
+        return Stated::Wrong;
     }
     let past = arranged(run, sid, at);
     if past == 0 {
-        return Ended::Wrong;
+        return Stated::Wrong;
     }
-    Ended::Past {
+    Stated::Past {
         past: past,
         end: end,
     }

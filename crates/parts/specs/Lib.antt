@@ -4,3 +4,4 @@ pub mod Room
 pub mod Holding
 pub mod Requests
 pub mod Spoken
+pub mod Unfit

@@ -4,6 +4,7 @@ pub mod Rows
 pub mod Groups
 pub mod Operators
 pub mod Reading
+pub mod Onward
 pub mod FitsPolicy
 pub mod StatementsParts
 pub mod StatementsRead
@@ -12,3 +13,4 @@ pub mod StatementsPolicy
 pub mod Partway
 pub mod PartwayOn
 pub mod Requests
+pub mod Unfit

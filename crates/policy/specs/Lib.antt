@@ -2,3 +2,4 @@
 pub mod Refusals
 pub mod Reading
 pub mod Statements
+pub mod Unfit

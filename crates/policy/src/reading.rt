@@ -3,12 +3,16 @@ ghost use Prim.Native.Nat.{_≤_};
 ghost use lib.ListN.{length};
 ghost use Rattle.syntax.specs.Limits.{policyBytes, recordBytes};
 ghost use Rattle.held.specs.Held.{held, heldRequest};
+ghost use Rattle.objects.specs.Leaving.{Leaves};
 ghost use Rattle.policy.specs.Reading.{policyRules, recordRules, Answers, Lent, Fit};
+use crate::onward;
 use crate::refusals::Refusal;
 use crate::requests;
 use crate::statements;
 use held::limits;
 use held::runs;
+use objects::leaving::Found;
+use objects::leaving::Place;
 use parts::holding::Held;
 use text::scan;
 use text::verdict::Verdict;
@@ -59,14 +63,19 @@ fn whole_record(s: &[u8], run: &mut [u32]) -> Read
     Read::Held(n)
 }
 
-// A policy text that is not too long: judged first, and then held.
-fn judged_policy(s: &[u8], run: &mut [u32]) -> Read
-    requires { ⌜ (length (now s) ≤ policyBytes) × (Lent policyBytes 0 (now s) (now run)) ⌝ }
+// A policy text that was given up at a place: judged from there on, and then held.
+fn judged_policy(s: &[u8], x: Place, run: &mut [u32]) -> Read
+    requires { ⌜ (length (now s) ≤ policyBytes) × ((Lent policyBytes 0 (now s) (now run)) × (Leaves (now s) x)) ⌝ }
     ensures { λ r. ⌜ Answers policyRules held (now (s .entry)) (now (run .exit)) r ⌝ }
 {
-    let v = scan::scan(s);
+    let v = onward::judged(s, x);
     match v {
-        Verdict::Whole => whole_policy(s, run),
+        Verdict::Whole => {
+            if onward::blamed(s, x, run) {
+                return Read::Refused(Refusal::PolicyLayout);
+            }
+            whole_policy(s, run)
+        }
         Verdict::Breaks(p) => Read::Refused(Refusal::PolicyText(p)),
         Verdict::Deep => Read::Refused(Refusal::PolicyLayout),
     }
@@ -85,7 +94,7 @@ fn judged_record(s: &[u8], run: &mut [u32]) -> Read
     }
 }
 
-// A policy text in the usual form is read in one walk, any other in two.
+// A policy text is read in one walk; where that is given up, it goes on another way.
 pub fn read_policy(s: &[u8], run: &mut [u32]) -> Read
     requires { ⌜ Lent policyBytes 0 (now s) (now run) ⌝ }
     ensures { λ r. ⌜ Answers policyRules held (now (s .entry)) (now (run .exit)) r ⌝ }
@@ -94,13 +103,15 @@ pub fn read_policy(s: &[u8], run: &mut [u32]) -> Read
         return Read::Refused(Refusal::PolicyLength);
     }
     let h = objects::policies::policy(s, run);
-    let Held::Past(n) = h else {
-        return judged_policy(s, run);
-    };
-    if runs::over_limit(run) {
-        return Read::Refused(Refusal::PolicyLimit);
+    match h {
+        Found::Held(n) => {
+            if runs::over_limit(run) {
+                return Read::Refused(Refusal::PolicyLimit);
+            }
+            Read::Held(n)
+        }
+        Found::Left(x) => judged_policy(s, x, run),
     }
-    Read::Held(n)
 }
 
 // A record likewise.

@@ -1,6 +1,7 @@
 pub mod Bare
 pub mod Marks
 pub mod Reads
+pub mod Leading
 pub mod Taking
 pub mod Seen
 pub mod Strings

@@ -13,7 +13,7 @@ use Rattle.held.specs.Lying.{Lies, Lying, PlacedFrom, none, more, Placed
 -- ---- one more
 
 module _ {A : Type 0} {h : A → List ℕ} {run places : List ℕ} where
-  pub placed-none : length places ≡ 16 → (e : ℕ) → Placed h run places 0 e []
+  pub placed-none : length places ≡ 64 → (e : ℕ) → Placed h run places 0 e []
   placed-none s e = record { count = refl; few = omega arith; size = s; each = none }
 
   -- further ends, and one more place behind those of the things
@@ -35,7 +35,7 @@ module _ {A : Type 0} {h : A → List ℕ} {run places : List ℕ} where
       (from-more (i + 1) xs r low (omega arith) l b))
 
   pub placed-next :
-      {n e p : ℕ} {x : A} {xs : List A} → Placed h run places n e xs → n < 16 → Lies run p (h x) → e ≤ p
+      {n e p : ℕ} {x : A} {xs : List A} → Placed h run places n e xs → n < 64 → Lies run p (h x) → e ≤ p
       → Placed h run (set places n p) (n + 1) (p + length (h x)) (xs ++ (x ∷ []))
   placed-next {n} {e} {p} {x} {xs} g room l low =
       let is : 0 + length xs ≡ n = omega (arith, g .count) in

@@ -185,6 +185,36 @@ pub gathering-none : {l : Kinded} {s run₀ run run₁ : List ℕ} {first at i p
 gathering-none g e =
     record { size = e ∙ g .kept .size; spans = g .spans; gathered = λ n. absurd (n (g .flag)) }
 
+-- the place of a name is noted in front
+pub gathering-mark : {l : Kinded} {s run₀ run : List ℕ} {first at i p : ℕ} {m : List ℕ} (c : ℕ)
+    → Gathering l s run₀ run first at i p m → Gathering l s run₀ run first at i p (set m 1 c)
+gathering-mark {l} {run = run} {p = p} {m} c g =
+    record {
+      spans = length-set m 1 c ∙ g .spans;
+      flag = getD-set-other m 1 0 c 0 (λ e. absurd (omega arith)) ∙ g .flag;
+      put = g .put;
+      reads = g .reads;
+      knows = g .knows;
+      shallow = g .shallow;
+      kept = g .kept;
+      low = g .low;
+      high = g .high;
+      inside = g .inside;
+      each = λ k t. by k t (g .each k t);
+    }
+  where
+    by : (k : ℕ) → Turn (l .words) k → SoFar l run p m (g .put) k → SoFar l run p (set m 1 c) (g .put) k
+    by k t x =
+        let o = t .from in
+        let a = getD-set-other m 1 (k + k) c 0 (λ e. absurd (omega arith)) in
+        let b = getD-set-other m 1 (k + k + 1) c 0 (λ e. absurd (omega arith)) in
+        record {
+          found = x .found;
+          is = x .is;
+          lies = subst (λ (n : ℕ). SlotFound (l .how k) run p (x .found) n (toOf (set m 1 c) k)) (sym a)
+              (subst (λ (n : ℕ). SlotFound (l .how k) run p (x .found) (fromOf m k) n) (sym b) (x .lies));
+        }
+
 depth-named : (w : List ℕ) (t : Json) (us : Members) {n : ℕ} → depth t ≤ n → depthm us ≤ n → depthm (named w t us) ≤ n
 unfolding depthm
 depth-named w t us a b = omega arith
@@ -302,6 +332,13 @@ module _ {l : Kinded} {s run₀ run run₁ : List ℕ} {first at i p k v from to
           each = slot-each;
         }
 
+  -- given up behind it
+  pub gathering-broken : Gathers l s run₀ run₁ first at noted
+  gathering-broken = record { size = gathering-size; spans = noted-length; gathered = λ n. absurd (n front) }
+
+  pub gathering-place : getD noted 1 0 ≡ getD m 1 0
+  gathering-place = let a = t .from in elsewhere 1 (λ e. absurd (omega arith)) (λ e. absurd (omega arith))
+
   -- the object ends behind it, if the answer is a place
   module _ {e : ℕ} (d : (e ≡ 0 → ⊥) → Closed s 125 end e) where
     abbrev ended : List ℕ
@@ -339,6 +376,9 @@ module _ {l : Kinded} {s run₀ run run₁ : List ℕ} {first at i p k v from to
         (sym (behind-there (j + j + 1) (omega arith))) z in
         subst (λ (c : Slot). SlotFound (l .how j) run₁ (behind ended) c (fromOf ended j) (toOf ended j))
         (sym (x .is no-members ∙ joined-none (x .found))) q
+
+    pub gathering-at : getD ended 0 0 ≡ e
+    gathering-at = end-there
 
     pub gathering-end : Gathers l s run₀ run₁ first at ended
     unfolding known depthm

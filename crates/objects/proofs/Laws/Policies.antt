@@ -30,16 +30,13 @@ use Rattle.straight.proofs.Laws.Reads.{first-reads, next-reads, object-last}
 use Rattle.straight.proofs.Laws.Laying.{several-taken}
 use Rattle.straight.proofs.Laws.Lists.{elementsOf, more-are}
 use Rattle.straight.proofs.Laws.Differing.{Kind}
+use Rattle.objects.specs.Leaving.{policyFrom}
 use Rattle.objects.proofs.Laws.Settling.{append-nothing}
 
 -- ---- statements
 
 abbrev pub statements : Kind Values Statement
 statements = record { frame = elementsOf heldStatement statementOf 4; alike = sameSid; symmetric = sameSid-symmetric }
-
--- a list of statements of which no two have the same Sid
-abbrev pub policyFrom : Json → Reading (List Statement)
-policyFrom t = then (oneOrMore statementOf t) (differing sameSid)
 
 pub statements-mean : (us : Values) (xs : List Statement) → (us ≡ no-more → ⊥) → each statementOf us ≡ read xs
     → differ sameSid xs ≡ true → policyFrom (list us) ≡ read xs

@@ -10,7 +10,7 @@ use Prim.Native.Nat.{ℕ, _+_, _-_, _≤_, _<_}
 use native.Mathlib.Omega.{arith}
 use lib.ListN.{length, length-append}
 use Rattle.text.specs.Json.{Json, depth, Piece, a-value, Reads}
-use Rattle.syntax.specs.Forms.{Reading, read}
+use Rattle.syntax.specs.Forms.{Reading, wrong, read}
 use Rattle.held.specs.Held.{heldEach}
 use Rattle.parts.specs.Holding.{Extends}
 use Rattle.parts.proofs.Laws.Extends.{extends-none, extends-then}
@@ -47,6 +47,7 @@ module _ {C A : Type 0} (k : Frame C A) (s : List ℕ) where
     pub all : C
     pub reads : Reads s (a-value (k .whole all)) v e
     pub gathers : (xs : List A) → k .gather us ≡ read xs → k .gather all ≡ read (things ++ xs)
+    pub fails : k .gather us ≡ wrong → k .gather all ≡ wrong
     pub shallow : k .size us ≤ k .levels → k .size all ≤ k .levels
     pub some-are : all ≡ k .nil → ⊥
 
@@ -61,6 +62,7 @@ module _ {C A : Type 0} (k : Frame C A) (s : List ℕ) where
     pub thing : A
     pub put : C → C
     pub gathers : (us : C) (xs : List A) → k .gather us ≡ read xs → k .gather (put us) ≡ read (thing ∷ xs)
+    pub fails : (us : C) → k .gather us ≡ wrong → k .gather (put us) ≡ wrong
     pub shallow : (us : C) → k .size us ≤ k .levels → k .size (put us) ≤ k .levels
     pub reads : (us : C) (z : ℕ) → Reads s (k .outer us) e z → Reads s (k .inner (put us)) i z
     pub later : i ≤ e
@@ -83,6 +85,7 @@ module _ {C A : Type 0} (k : Frame C A) (s : List ℕ) where
           all = us;
           reads = k .starts s us v i e o r;
           gathers = λ xs q. q;
+          fails = λ q. q;
           shallow = λ q. q;
           some-are = k .some s us i e r;
         };
@@ -130,6 +133,7 @@ module _ {C A : Type 0} (k : Frame C A) (s : List ℕ) where
                 reads = w .reads;
                 gathers = λ xs q. w .gathers (t .thing ∷ xs) (t .gathers us xs q)
                     ∙ ap (λ (l : List A). read l) (sym (append-assoc things (t .thing ∷ []) xs));
+                fails = λ q. w .fails (t .fails us q);
                 shallow = λ q. w .shallow (t .shallow us q);
                 some-are = w .some-are;
               }

@@ -7,7 +7,7 @@ use Prim.Native.Nat.{ℕ, _+_, _≤_}
 use native.Mathlib.Omega.{arith}
 use Rattle.text.specs.Json.{Json, Values, no-more, also, Members, no-members, named, list, object, depth, depths}
 use Rattle.text.specs.Json.{depthm, elements, rest, members, more, Reads, element}
-use Rattle.syntax.specs.Forms.{Reading, read}
+use Rattle.syntax.specs.Forms.{Reading, wrong, read}
 use Rattle.syntax.specs.Members.{cons, each, some, oneOrMore}
 use Rattle.syntax.specs.Members as S
 use Rattle.straight.specs.Taking.{Taken, TakenMember}
@@ -18,6 +18,11 @@ use Rattle.straight.proofs.Laws.Going.{Frame, Passed}
 pub cons-read : {A : Type 0} {y : Reading A} {ys : Reading (List A)} {x : A} {xs : List A} → y ≡ read x → ys ≡ read xs
     → cons y ys ≡ read (x ∷ xs)
 cons-read {ys = ys} {x = x} e q = ap (λ z. cons z ys) e ∙ ap (λ z. cons (read x) z) q
+
+-- something wrong behind one that is read
+pub cons-wrong : {A : Type 0} {y : Reading A} {ys : Reading (List A)} {x : A} → y ≡ read x → ys ≡ wrong
+    → cons y ys ≡ wrong
+cons-wrong {ys = ys} {x = x} e q = ap (λ z. cons z ys) e ∙ ap (λ z. cons (read x) z) q
 
 -- ---- elements
 
@@ -76,6 +81,7 @@ module _ {A : Type 0} (h : A → List ℕ) (f : Json → Reading A) (d : ℕ) wh
         thing = t .laid .thing;
         put = λ us. also (t .tree) us;
         gathers = λ us xs k. cons-read (t .laid .said) k;
+        fails = λ us k. cons-wrong (t .laid .said) k;
         shallow = λ us k. omega (arith, t .shallow);
         reads = λ us z r. element (t .reads) r;
         later = omega (arith, reads-later (t .reads));
@@ -134,6 +140,7 @@ module _ {A : Type 0} (h : A → List ℕ) (f : List ℕ → Json → Reading A)
         thing = t .laid .thing;
         put = λ us. named (t .raw) (t .tree) us;
         gathers = λ us xs k. cons-read (t .laid .said) k;
+        fails = λ us k. cons-wrong (t .laid .said) k;
         shallow = λ us k. omega (arith, t .shallow);
         reads = λ us z r. t .reads us z r;
         later = t .later;

@@ -75,7 +75,7 @@ unless-then f u = record { found = λ h. f (u .found h) }
 -- ---- marks
 
 pub opened-reads : {s : List ℕ} {b v r : ℕ} → At s v b → Done s (ws ∷ []) (v + 1) r → Opened s b v r
-opened-reads a d = record { at = a; space = space-reads d }
+opened-reads a d = record { at = a; space = space-reads d; all = d }
 
 pub closed-reads : {s : List ℕ} {b i j : ℕ} → Done s (ws ∷ []) i j → At s j b → Closed s b i (j + 1)
 closed-reads {j = j} d a = record { place = j; space = space-reads d; at = a; past = refl }
@@ -87,4 +87,5 @@ parted-reads {s} {r = r} p d =
       before = p .space;
       at = p .at;
       after = subst (λ (k : ℕ). Space s k r) (p .past) (space-reads d);
+      all = subst (λ (k : ℕ). Done s (ws ∷ []) k r) (p .past) d;
     }

@@ -1,8 +1,10 @@
 -- The statements lie behind the place of their number.
+use mathlib.Core.Path.{sym, subst}
 use native.Mathlib.Omega.{arith}
-use Rattle.held.specs.Held.{heldStatement}
-use Rattle.straight.proofs.Laws.Taking.{several-past}
-use Rattle.objects.proofs.Laws.Policies.{policyFrom, listed-laid}
+use Rattle.objects.specs.declared.leaving.Walked.{Walked}
+use Rattle.objects.specs.Leaving.{Walks}
+use Rattle.objects.proofs.Laws.Policies.{listed-laid}
+use Rattle.objects.proofs.Laws.Listed.{counts-past, walks-listed}
 use borrow.Author.Needs.{needs}
 use Rattle.objects.proofs.policies.several.Statement.{statement}
 use Rattle.objects.proofs.policies.several.Tie as tie
@@ -31,14 +33,21 @@ listed-requires c κs = search needs
 enum-known-c : tie.Need-enum-known-c
 enum-known-c c = search needs
 
-enum-told : tie.Need-enum-told
-enum-told c = search needs
+in-value-requires : tie.Need-in-value-requires
+in-value-requires c κs = search needs
 
 same-length-2 : tie.Need-same-length-2
 same-length-2 c = search needs
 
 returns-4 : tie.Need-returns-4
-returns-4 c = search needs
+returns-4 c =
+    let call = c .before .before .before .before in
+    let start = call .before .before .before .before .before .before .before .before in
+    let s = start .args .s .now in
+    let run = start .args .run .now in
+    let run₁ = call .listed .last .1 .1 .0 in
+    subst (λ (r : Walked). Walks s run run₁ (start .args .v) r) (sym (c .in-value .ensures))
+    (walks-listed s run run₁ (start .args .v) 1 (call .listed .result) (call .listed .ensures))
 
 same-length-3 : tie.Need-same-length-3
 same-length-3 c = search needs
@@ -57,11 +66,11 @@ same-length-4 c = search needs
 
 returns-6 : tie.Need-returns-6
 returns-6 c =
-    let at-listed = c .before .before .before .before .before .before in
-    let start = at-listed .before .before .before .before .before .before .before .before in
-    listed-laid (omega (arith, at-listed .before .before .before .before .before .if1 .left))
-    (several-past heldStatement 5 (start .args .s .now) (start .args .run .now) (at-listed .listed .last .1 .1 .0)
-    (start .args .v) 1 policyFrom (at-listed .listed .ensures) (c .before .before .c .given .1))
+    let call = c .before .before .before .before .before .before in
+    let start = call .before .before .before .before .before .before .before .before in
+    listed-laid (omega (arith, call .before .before .before .before .before .if1 .left))
+    (counts-past (start .args .s .now) (start .args .run .now) (call .listed .last .1 .1 .0) (start .args .v) 1
+    (call .listed .ensures) (c .before .before .c .given .1))
 
 pub several-spec : {M : Type 1} → statement M
 several-spec =
@@ -75,7 +84,7 @@ several-spec =
     returns-3
     listed-requires
     enum-known-c
-    enum-told
+    in-value-requires
     same-length-2
     returns-4
     same-length-3

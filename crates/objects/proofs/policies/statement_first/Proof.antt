@@ -1,10 +1,9 @@
 -- The statements and the edition stand one behind the other, and then the object ends.
 use mathlib.Core.Path.{refl}
-use Rattle.held.specs.Held.{held}
 use Rattle.straight.specs.Marks.{allBare}
 use Rattle.straight.proofs.Laws.Reads.{quoted-inside, reads-inside}
-use Rattle.straight.proofs.Laws.Taking.{takes-past}
-use Rattle.objects.proofs.Laws.Policies.{policyFrom, statement-first-taken}
+use Rattle.objects.proofs.Laws.Policies.{statement-first-taken}
+use Rattle.objects.proofs.Laws.Left.{statement-reached, gets-inside, gets-behind, gets-ended, walks-past}
 use borrow.Author.Needs.{needs}
 use Rattle.objects.proofs.policies.statement_first.Statement.{statement}
 use Rattle.objects.proofs.policies.statement_first.Tie as tie
@@ -17,7 +16,7 @@ unfolding allBare
 first-requires c κs = search needs
 
 returns : tie.Need-returns
-returns c = search needs
+returns c = (refl, tt)
 
 several-requires : tie.Need-several-requires
 several-requires c κs = search needs
@@ -25,14 +24,20 @@ several-requires c κs = search needs
 enum-known-h : tie.Need-enum-known-h
 enum-known-h c = search needs
 
-enum-told : tie.Need-enum-told
-enum-told c = search needs
+in-policy-requires : tie.Need-in-policy-requires
+in-policy-requires c κs = search needs
 
 same-length : tie.Need-same-length
 same-length c = search needs
 
 returns-2 : tie.Need-returns-2
-returns-2 c = search needs
+returns-2 c =
+    let at-several = c .before .before .before .before in
+    let at-first = at-several .before .before .before in
+    let start = at-first .before .before .before .before in
+    let r = statement-reached (at-first .first .ensures .found (at-several .before .before .if1 .left)) in
+    gets-inside r (start .args .run .now) (at-several .several .last .1 .1 .0) (at-several .several .result)
+    (c .in-policy .result) (c .in-policy .ensures) (at-several .several .ensures)
 
 slice-aggregate-next : tie.Need-slice-aggregate-next
 slice-aggregate-next c = search needs
@@ -42,17 +47,21 @@ unfolding allBare
 next-requires c κs =
     let at-h = c .before .before in
     let at-several = at-h .before .before .before .before in
-    let at-first = at-several .before .before .before in
-    let start = at-first .before .before .before .before in
-    let t = takes-past held 5 (start .args .s .now) (start .args .run .now) (at-several .several .last .1 .1 .0)
-    (at-first .first .result) 0 policyFrom (at-several .several .ensures) (at-h .h .given .1) in
+    let t = walks-past (at-several .several .result) (at-several .several .ensures) (at-h .h .given .1) in
     (reads-inside (t .reads), refl)
 
 same-length-2 : tie.Need-same-length-2
 same-length-2 c = search needs
 
 returns-3 : tie.Need-returns-3
-returns-3 c = search needs
+returns-3 c =
+    let at-h = c .before .before .before .before in
+    let at-several = at-h .before .before .before .before in
+    let at-first = at-several .before .before .before in
+    let start = at-first .before .before .before .before in
+    let r = statement-reached (at-first .first .ensures .found (at-several .before .before .if1 .left)) in
+    let t = walks-past (at-several .several .result) (at-several .several .ensures) (at-h .h .given .1) in
+    gets-behind r (start .args .run .now) (at-several .several .last .1 .1 .0) t
 
 slice-aggregate-quote : tie.Need-slice-aggregate-quote
 slice-aggregate-quote c = search needs
@@ -65,33 +74,35 @@ same-length-3 : tie.Need-same-length-3
 same-length-3 c = search needs
 
 returns-4 : tie.Need-returns-4
-returns-4 c = search needs
+returns-4 c =
+    let at-h = c .before .before .before .before .before .before .before in
+    let at-several = at-h .before .before .before .before in
+    let at-first = at-several .before .before .before in
+    let start = at-first .before .before .before .before in
+    let r = statement-reached (at-first .first .ensures .found (at-several .before .before .if1 .left)) in
+    let t = walks-past (at-several .several .result) (at-several .several .ensures) (at-h .h .given .1) in
+    gets-behind r (start .args .run .now) (at-several .several .last .1 .1 .0) t
 
-closed-requires : tie.Need-closed-requires
-closed-requires c κs = quoted-inside (c .before .quote .ensures .found (c .if3 .left))
+ended-requires : tie.Need-ended-requires
+ended-requires c κs = quoted-inside (c .before .quote .ensures .found (c .if3 .left))
 
 same-length-4 : tie.Need-same-length-4
 same-length-4 c = search needs
 
 returns-5 : tie.Need-returns-5
-returns-5 c = search needs
-
-same-length-5 : tie.Need-same-length-5
-same-length-5 c = search needs
-
-returns-6 : tie.Need-returns-6
-returns-6 c =
-    let at-h = c .before .before .before .before .before .before .before .before .before in
+returns-5 c =
+    let at-quote = c .before .before in
+    let at-next = at-quote .before .before .before in
+    let at-h = at-next .before .before .before in
     let at-several = at-h .before .before .before .before in
     let at-first = at-several .before .before .before in
     let start = at-first .before .before .before .before in
-    let t = takes-past held 5 (start .args .s .now) (start .args .run .now) (at-several .several .last .1 .1 .0)
-    (at-first .first .result) 0 policyFrom (at-several .several .ensures) (at-h .h .given .1) in
-    let at-quote = c .before .before .before in
-    let at-next = at-quote .before .before .before in
-    statement-first-taken (at-first .first .ensures .found (at-several .before .before .if1 .left)) t
-    (at-next .next .ensures .found (at-quote .before .before .if2 .left))
-    (at-quote .quote .ensures .found (c .before .before .if3 .left)) (c .before .closed .ensures .found (c .if4 .left))
+    let f = at-first .first .ensures .found (at-several .before .before .if1 .left) in
+    let t = walks-past (at-several .several .result) (at-several .several .ensures) (at-h .h .given .1) in
+    let n = at-next .next .ensures .found (at-quote .before .before .if2 .left) in
+    let q = at-quote .quote .ensures .found (c .before .if3 .left) in
+    gets-ended (statement-reached f) (start .args .run .now) (at-several .several .last .1 .1 .0) t
+    (at-quote .quote .result) (c .ended .result) (λ e z. statement-first-taken f t n q z) (c .ended .ensures)
 
 pub statement-first-spec : {M : Type 1} → statement M
 statement-first-spec =
@@ -102,7 +113,7 @@ statement-first-spec =
     returns
     several-requires
     enum-known-h
-    enum-told
+    in-policy-requires
     same-length
     returns-2
     slice-aggregate-next
@@ -113,8 +124,6 @@ statement-first-spec =
     quote-requires
     same-length-3
     returns-4
-    closed-requires
+    ended-requires
     same-length-4
-    returns-5
-    same-length-5
-    returns-6)
+    returns-5)

@@ -5,8 +5,8 @@ use Rattle.syntax.specs.PolicyLayout.{policyOf}
 use Rattle.held.specs.Held.{held}
 use Rattle.objects.specs.Telling.{TakenText}
 use Rattle.policy.specs.Reading.{policyRules}
-use Rattle.policy.proofs.Laws.Reading.{says-long, text-past, text-wrong, lent-again, held-lies, policy-over}
-use Rattle.policy.proofs.Laws.Reading.{policy-known}
+use Rattle.policy.proofs.Laws.Reading.{says-long, lent-again, held-lies, policy-over, policy-known}
+use Rattle.policy.proofs.Laws.Onward.{finds-held, finds-left}
 use borrow.Author.Needs.{needs}
 use Rattle.policy.proofs.reading.read_policy.Statement.{statement}
 use Rattle.policy.proofs.reading.read_policy.Tie as tie
@@ -20,38 +20,42 @@ policy-requires c κs = c .before .before .before .before .pre .bounded
 enum-known-h : tie.Need-enum-known-h
 enum-known-h c = search needs
 
-enum-told : tie.Need-enum-told
-enum-told c = search needs
-
-judged-policy-requires : tie.Need-judged-policy-requires
-judged-policy-requires c κs =
-    let at-policy = c .before .before .before .before .before in
-    let at-if1 = at-policy .before .before in
-    let start = at-if1 .before .before .before in (
-      omega (arith, at-if1 .if1 .left),
-      lent-again (start .pre)
-          (text-wrong held policyOf _ _ _ (at-policy .policy .ensures) (c .before .enum-told .given .1)),
-    )
-
-same-length : tie.Need-same-length
-same-length c = search needs
-
-returns-2 : tie.Need-returns-2
-returns-2 c = c .before .before .judged-policy .ensures
-
 -- what was taken of the text
 taken : (c : tie.After-h)
     → TakenText held policyOf
     (c .before .before .before .before .before .before .before .before .before .args .s .now)
     (c .before .before .before .before .before .before .before .before .before .args .run .now)
     (c .before .before .before .before .policy .last .1 .0) (c .h .given .0 .0)
-taken c = text-past held policyOf _ _ _ (c .before .before .before .before .policy .ensures) (c .h .given .1)
+taken c = finds-held _ _ _ (c .before .before .before .before .policy .ensures) (c .h .given .1)
 
 over-limit-requires : tie.Need-over-limit-requires
 over-limit-requires c κs =
     let at-h = c .before .before in
     let start = at-h .before .before .before .before .before .before .before .before .before in
     record { thing = _; lies = held-lies (start .pre .bounded) (taken at-h .laid) }
+
+same-length : tie.Need-same-length
+same-length c = taken (c .before .before .before .before) .laid .extends .size
+
+returns-2 : tie.Need-returns-2
+returns-2 c =
+    let at-h = c .before .before .before .before in
+    let at-if1 = at-h .before .before .before .before .before .before in
+    let start = at-if1 .before .before .before in
+    let t = taken at-h in
+    policy-over (omega (arith, at-if1 .if1 .left)) (t .text) _ (t .laid .said)
+    (sym (c .before .over-limit .ensures _ (held-lies (start .pre .bounded) (t .laid))) ∙ c .if2 .taken)
+
+enum-known-h-2 : tie.Need-enum-known-h-2
+enum-known-h-2 c = search needs
+
+judged-policy-requires : tie.Need-judged-policy-requires
+judged-policy-requires c κs =
+    let at-policy = c .before .before .before .before .before .before in
+    let at-if1 = at-policy .before .before in
+    let start = at-if1 .before .before .before in
+    let left = finds-left _ _ _ (at-policy .policy .ensures) (c .before .before .h2 .given .1) in
+    (omega (arith, at-if1 .if1 .left), (lent-again (start .pre) (left .0), left .1))
 
 same-length-2 : tie.Need-same-length-2
 same-length-2 c = taken (c .before .before .before .before) .laid .extends .size
@@ -62,20 +66,14 @@ returns-3 c =
     let at-if1 = at-h .before .before .before .before .before .before in
     let start = at-if1 .before .before .before in
     let t = taken at-h in
-    policy-over (omega (arith, at-if1 .if1 .left)) (t .text) _ (t .laid .said)
-    (sym (c .before .over-limit .ensures _ (held-lies (start .pre .bounded) (t .laid))) ∙ c .if2 .taken)
-
-same-length-3 : tie.Need-same-length-3
-same-length-3 c = taken (c .before .before .before .before) .laid .extends .size
-
-returns-4 : tie.Need-returns-4
-returns-4 c =
-    let at-h = c .before .before .before .before in
-    let at-if1 = at-h .before .before .before .before .before .before in
-    let start = at-if1 .before .before .before in
-    let t = taken at-h in
     policy-known (omega (arith, at-if1 .if1 .left)) (t .text) (t .laid)
     (sym (c .before .over-limit .ensures _ (held-lies (start .pre .bounded) (t .laid))) ∙ c .if2 .left)
+
+same-length-3 : tie.Need-same-length-3
+same-length-3 c = search needs
+
+returns-4 : tie.Need-returns-4
+returns-4 c = c .before .before .judged-policy .ensures
 
 pub read-policy-spec : {M : Type 1} → statement M
 read-policy-spec =
@@ -84,11 +82,11 @@ read-policy-spec =
     returns
     policy-requires
     enum-known-h
-    enum-told
-    judged-policy-requires
+    over-limit-requires
     same-length
     returns-2
-    over-limit-requires
+    enum-known-h-2
+    judged-policy-requires
     same-length-2
     returns-3
     same-length-3
