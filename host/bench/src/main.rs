@@ -2,6 +2,7 @@
 //! in one run. docs/BENCH.md says how to read it.
 
 mod counts;
+mod found;
 mod groups;
 mod operations;
 mod program;
@@ -22,12 +23,14 @@ fn main() {
         ["operations"] => tables::operations(),
         ["functions"] => tables::functions(),
         ["program", records, rounds, programs @ ..] => program::print(records, rounds, programs),
+        ["found", folder] => found::print(folder),
+        ["faults"] => found::print_faults(),
         ["stack"] => stack::print(),
         ["texts"] => print_texts(),
         ["repeat", operation, texts, kernel, times] => repeat(operation, texts, kernel, times),
         _ => fail(
-            "tables | operations | functions | program RECORDS ROUNDS PROGRAM .. | stack | texts \
-             | repeat OPERATION TEXTS KERNEL TIMES",
+            "tables | operations | functions | program RECORDS ROUNDS PROGRAM .. | found FOLDER \
+             | faults | stack | texts | repeat OPERATION TEXTS KERNEL TIMES",
         ),
     }
 }

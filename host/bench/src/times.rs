@@ -11,10 +11,14 @@ const BATCH: Duration = Duration::from_micros(500);
 /// Nanoseconds per call, by kernel and round. The kernels take turns, and each
 /// round begins with another, so that a slow spell of the machine meets all.
 pub fn measure(group: &mut Group) -> Vec<Vec<f64>> {
+    measure_in(group, ROUNDS)
+}
+
+pub fn measure_in(group: &mut Group, rounds: usize) -> Vec<Vec<f64>> {
     let batches: Vec<usize> = group.kernels.iter_mut().map(batch_of).collect();
     let kernels = group.kernels.len();
-    let mut times = vec![Vec::with_capacity(ROUNDS); kernels];
-    for round in 0..ROUNDS {
+    let mut times = vec![Vec::with_capacity(rounds); kernels];
+    for round in 0..rounds {
         for turn in 0..kernels {
             let index = (round + turn) % kernels;
             let taken = time(&mut group.kernels[index], batches[index]);
