@@ -67,6 +67,10 @@ fn decide_lent(policy: &[u8], asked: &[u8], run: &mut [u32]) -> Answer
 pub fn decide(policy: &[u8], asked: &[u8]) -> Answer
     ensures { λ r. ⌜ Decides (now (policy .entry)) (now (asked .entry)) (toldAnswer r) ⌝ }
 {
+    if policy.len() <= reading::LEAST {
+        let mut run = [0u32; 256];
+        return decide_lent(policy, asked, &mut run);
+    }
     if policy.len() <= reading::TINY {
         let mut run = [0u32; 1024];
         return decide_lent(policy, asked, &mut run);

@@ -10,6 +10,7 @@ pub mod StatementsParts
 pub mod StatementsRead
 pub mod Statements
 pub mod StatementsPolicy
+pub mod Framed
 pub mod Partway
 pub mod PartwayOn
 pub mod Requests

@@ -1,9 +1,11 @@
 // A policy's statements, read where they stand and held in a run.
 ghost use mathlib.Core.Path.{_≡_};
+ghost use mathlib.Core.Bool.{false};
 ghost use mathlib.Core.List.{[]};
 ghost use Prim.Native.Nat.{ℕ};
 ghost use Rattle.text.specs.Json.{Json, Values, Members, list, object};
-ghost use Rattle.text.specs.Contents.{Stands};
+ghost use Rattle.text.specs.Contents.{Stands, StandingObject};
+ghost use Rattle.syntax.specs.Forms.{wrong};
 ghost use Rattle.syntax.specs.Members.{then, Slot, optional, each, oneOrMore, differing};
 ghost use Rattle.parts.specs.Slots.{Placed};
 ghost use Rattle.syntax.specs.PolicyLayout.{sidOf, conditionOf, statementOf, sameSid, policyOf};
@@ -289,12 +291,31 @@ fn hold_members(s: &[u8], v: usize, run: &mut [u32]) -> Held
     }
 }
 
+// Has an object a policy's members, none unknown or repeated, and the right Version? If not, no statement need be looked at.
+fn is_framed(s: &[u8], v: usize) -> bool
+    requires { ⌜ StandingObject (now s) v ⌝ }
+    ensures { λ r. ⌜ (r ≡ false → (ms : Members) (e : ℕ) → Stands (now (s .entry)) (object ms) v e → policyOf (object ms) ≡ wrong) ⌝ }
+{
+    let places = members::slots(s, v, Layout::Policy);
+    if places[0] == 0 {
+        return false;
+    }
+    let version = places[1];
+    if version == 0 {
+        return false;
+    }
+    words::is_edition(s, version)
+}
+
 // The policy that stands at a place, from the run's beginning on.
 pub fn hold_policy(s: &[u8], v: usize, run: &mut [u32]) -> Held
     requires { ⌜ HoldablePolicy (now s) v (now run) ⌝ }
     ensures { λ r. ⌜ ((t : Json) (e : ℕ) → Stands (now (s .entry)) t v e → Holds held (now (run .entry)) (now (run .exit)) 0 (policyOf t) r) ⌝ }
 {
     if !holding::is_object(walk::kind_at(s, v)) {
+        return Held::Wrong;
+    }
+    if !is_framed(s, v) {
         return Held::Wrong;
     }
     hold_members(s, v, run)

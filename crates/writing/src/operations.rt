@@ -102,6 +102,10 @@ fn restate_lent(policy: &[u8], out: &mut [u8], run: &mut [u32]) -> Answer
 pub fn restate(policy: &[u8], out: &mut [u8]) -> Answer
     ensures { λ r. ⌜ Restates (now (policy .entry)) (now (out .entry)) (toldAnswer r) (now (out .exit)) ⌝ }
 {
+    if policy.len() <= reading::LEAST {
+        let mut run = [0u32; 256];
+        return restate_lent(policy, out, &mut run);
+    }
     if policy.len() <= reading::TINY {
         let mut run = [0u32; 1024];
         return restate_lent(policy, out, &mut run);

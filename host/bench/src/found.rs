@@ -48,8 +48,10 @@ pub fn print_faults() {
 }
 
 fn print_row(kind: &str, operation: &'static str, texts: &[Text]) {
-    let ratio = |text: &Text| (measured(operation, &text.bytes).2, text.name.as_str());
-    let mut ratios: Vec<(f64, &str)> = texts.iter().map(ratio).collect();
+    let mut ratios: Vec<(f64, &str)> = texts
+        .iter()
+        .map(|text| (measured(operation, &text.bytes).2, text.name.as_str()))
+        .collect();
     ratios.sort_by(|one, other| one.0.total_cmp(&other.0));
     let (Some(least), Some(most)) = (ratios.first(), ratios.last()) else {
         return;

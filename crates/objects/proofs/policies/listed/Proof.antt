@@ -1,6 +1,4 @@
 -- Each turn passes one statement behind those before it, whose Sid none of them has; behind the last the list ends.
--- the call, the turn's state before it, and where the function starts
--- the statement of the turn, behind those before it
 use mathlib.Core.Path.{_≡_, sym, _∙_, subst}
 use mathlib.Core.Logic.{⊎-elim, inl, inr}
 use Prim.Native.Nat.{_-_}
@@ -27,6 +25,7 @@ Inv-loop s v run₀ at i₀ places₀ p₀ n₀ run i places p n = Listing s v r
 abbrev μ-loop : tie.MeasureT-loop
 μ-loop s v run₀ at i₀ places₀ p₀ n₀ run i places p n = length s - i
 
+-- the call, the turn's state before it, and where the function starts
 abbrev call : tie.After-h Inv-loop μ-loop → tie.After-statement Inv-loop μ-loop
 call c = c .before .before .before .before
 
@@ -36,6 +35,7 @@ turn d = d .before .before
 abbrev start : tie.After-statement Inv-loop μ-loop → tie.Start Inv-loop μ-loop
 start d = turn d .before .before .before .before .before
 
+-- the statement of the turn, behind those before it
 taken : (c : tie.After-h Inv-loop μ-loop)
     → Taken heldStatement statementOf 4 (start (call c) .args .s .now) (turn (call c) .loop .run)
     (call c .statement .last .1 .1 .0) (turn (call c) .loop .i) (turn (call c) .loop .p) (c .h .given .0 .0)

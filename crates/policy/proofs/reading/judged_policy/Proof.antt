@@ -1,6 +1,5 @@
 -- What the text is, is told from the place on: broken, too deep, or whole. A whole text with an unfit member there is no
 -- policy; any other is held.
--- the verdict on the text
 use mathlib.Core.Path.{_≡_, sym, _∙_}
 use native.Mathlib.Omega.{arith}
 use Rattle.text.specs.Machine.{verdict}
@@ -11,6 +10,7 @@ use borrow.Author.Needs.{needs}
 use Rattle.policy.proofs.reading.judged_policy.Statement.{statement}
 use Rattle.policy.proofs.reading.judged_policy.Tie as tie
 
+-- the verdict on the text
 told : (c : tie.After-judged)
     → c .judged .result ≡ verdict (c .before .before .before .args .s .now)
 told c = c .judged .ensures ∙ sym (c .before .before .before .pre .1 .1 .judged)
