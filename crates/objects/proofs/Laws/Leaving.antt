@@ -28,6 +28,7 @@ use Rattle.parts.specs.Slots.{wordsOf, wordAt}
 use Rattle.parts.specs.Unfit.{turnOf, UnfitAs, unknown, sid, effect, action, resource, condition, UnfitFirst, Bad}
 use Rattle.parts.specs.declared.members.Layout.the-variants as L
 use Rattle.parts.proofs.Laws.Slots.{which-unknown, which-is}
+use Rattle.parts.proofs.Laws.Formed.{then-wrong as wrong-then}
 use Rattle.straight.specs.Marks.{Named, Parted}
 use Rattle.straight.proofs.Laws.Reads.{object-some, object-next, member-is}
 use Rattle.straight.proofs.Laws.Leading.{opened-inner, member-leads}
@@ -97,9 +98,6 @@ given-up {l} {s} {first = first} g c e z =
 pub then-wrong : {A B : Type 0} (x : Reading A) (f : A → Reading B) → ((a : A) → f a ≡ wrong) → then x f ≡ wrong
 then-wrong wrong f h = refl
 then-wrong (read a) f h = h a
-
-wrong-then : {A B : Type 0} {x : Reading A} (f : A → Reading B) → x ≡ wrong → then x f ≡ wrong
-wrong-then f e = ap (λ x. then x f) e
 
 pub pick-either : {A : Type 0} (b : Bool) {x : Reading A} → x ≡ wrong → pick b x wrong ≡ wrong
 pick-either true e = e
