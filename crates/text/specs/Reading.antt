@@ -7,14 +7,16 @@ use mathlib.Core.Path.{_≡_}
 use mathlib.Core.Bool.{Bool, true, false}
 use mathlib.Core.List.{List, [], _∷_, _++_}
 use Prim.Native.Nat.{ℕ, _-_, _≤_, _<_}
+use lib.Dec.{eqb}
 use lib.ListN.{length, getD}
-use Rattle.text.specs.Machine.{Item, pass, go, ws, text, value, first, next, inner, move, from}
+use Rattle.chars.specs.Base.{pick, At}
+use Rattle.text.specs.Machine.{Item, pass, go, ws, text, value, first, next, before, inner, move, from}
 use Rattle.text.specs.declared.verdict.Verdict.{Verdict}
 use Rattle.text.specs.declared.verdict.Verdict.the-variants.{Whole, Breaks, Deep}
 use Rattle.text.specs.declared.verdict.Part.{Part}
 use Rattle.text.specs.declared.verdict.Part.the-variants.{Past, Fails}
 use Rattle.text.specs.declared.scan.Shape.{Shape}
-use Rattle.text.specs.declared.scan.Shape.the-variants.{List as list}
+use Rattle.text.specs.declared.scan.Shape.the-variants.{List as list, Object as object}
 use Rattle.text.specs.declared.scan.Begun.{Begun}
 use Rattle.text.specs.declared.scan.Begun.the-variants.{Ends, Inner}
 use Rattle.text.specs.declared.scan.Next.{Next}
@@ -57,18 +59,33 @@ pub record Quoted (s : List ℕ) (a r : ℕ) : Type 0 where
   pub done : (r ≡ 0 → ⊥) → Done s (text ∷ []) a r
   pub quote : (r ≡ 0 → ⊥) → getD s (r - 1) 0 ≡ 34
 
--- behind an opening bracket, however many levels are left: the list ends; or, behind a comma, more of it is owed
-pub record Listed (s : List ℕ) (a r : ℕ) : Type 0 where
-  pub high : (r ≡ 0 → ⊥) → r ≤ length s
-  pub ended : (n : ℕ) → (r ≡ 0 → ⊥) → (getD s (r - 1) 0 ≡ 44 → ⊥) → Done s (ws ∷ first list n ∷ []) a r
-  pub more : (n : ℕ) → (r ≡ 0 → ⊥) → getD s (r - 1) 0 ≡ 44 → Leads s (ws ∷ first list n ∷ []) a (ws ∷ inner list n) r
+-- of a member's name it also tells that a quote stands at its place
+pub record Named (s : List ℕ) (a r : ℕ) : Type 0 where
+  pub done : (r ≡ 0 → ⊥) → Done s (before object) a r
+  pub quote : (r ≡ 0 → ⊥) → At s a 34
 
--- likewise of a value: it ends, or more of a list is owed, for which a level was left
+-- what a byte opens that opens a list or an object
+abbrev pub shapeOf : ℕ → Shape
+shapeOf b = pick (eqb b 123) object list
+
+-- what is owed behind a comma
+abbrev pub ahead : Shape → ℕ → List Item
+ahead sh n = ws ∷ (before sh ++ inner sh n)
+
+-- behind an opening bracket or brace, where n levels are left: the list or object ends; or, behind a comma, more of it
+-- is owed
+pub record Gathered (s : List ℕ) (sh : Shape) (n a r : ℕ) : Type 0 where
+  pub high : (r ≡ 0 → ⊥) → r ≤ length s
+  pub ended : (r ≡ 0 → ⊥) → (getD s (r - 1) 0 ≡ 44 → ⊥) → Done s (ws ∷ first sh n ∷ []) a r
+  pub more : (r ≡ 0 → ⊥) → getD s (r - 1) 0 ≡ 44 → Leads s (ws ∷ first sh n ∷ []) a (ahead sh n) r
+
+-- likewise of a value: it ends, or more of what its first byte opens is owed, for which a level was left
 pub record Fronts (s : List ℕ) (n a r : ℕ) : Type 0 where
+  pub inside : (r ≡ 0 → ⊥) → a < length s
   pub high : (r ≡ 0 → ⊥) → r ≤ length s
   pub ended : (r ≡ 0 → ⊥) → (getD s (r - 1) 0 ≡ 44 → ⊥) → Done s (value n ∷ []) a r
   pub left : (r ≡ 0 → ⊥) → getD s (r - 1) 0 ≡ 44 → 0 < n
-  pub more : (r ≡ 0 → ⊥) → getD s (r - 1) 0 ≡ 44 → Leads s (value n ∷ []) a (ws ∷ inner list (n - 1)) r
+  pub more : (r ≡ 0 → ⊥) → getD s (r - 1) 0 ≡ 44 → Leads s (value n ∷ []) a (ahead (shapeOf (getD s a 0)) (n - 1)) r
 
 -- behind an opening bracket or brace, however many levels are left
 abbrev pub Opened : List ℕ → Shape → ℕ → Begun → ℕ → Type 0

@@ -5,7 +5,7 @@ ghost use mathlib.Core.Path.{_≡_};
 ghost use Prim.Native.Nat.{_≤_};
 ghost use lib.ListN.{length};
 ghost use Rattle.text.specs.Machine.{ws, byte, text, value, before, close, verdict};
-ghost use Rattle.text.specs.Reading.{Done, Goes, Begins, Opens, Follows};
+ghost use Rattle.text.specs.Reading.{Done, Goes, Begins, Opens, Follows, shapeOf};
 use crate::numbers;
 use crate::quick;
 use crate::quoted;
@@ -217,50 +217,67 @@ pub fn follow(s: &[u8], at: usize, shape: Shape) -> Next
     }
 }
 
-// The value at a place, where at most so many levels may be opened. What the quick way read of a list up to a comma
-// is gone on with behind it.
+// What a byte opens that opens a list or an object.
+fn shape_of(b: u8) -> Shape
+    ensures { λ r. ⌜ r ≡ shapeOf b ⌝ }
+{
+    if b == 123 {
+        return Shape::Object;
+    }
+    Shape::List
+}
+
+// How the value at a place begins: what the quick way read of a list or an object up to a comma is gone on with
+// behind it.
+fn entered(s: &[u8], at: usize, left: usize) -> Begun
+    requires { ⌜ at ≤ length (now s) ⌝ }
+    ensures { λ r. ⌜ Begins (now (s .entry)) left at r ⌝ }
+{
+    let e = quick::front(s, at, left);
+    if e == 0 {
+        return begin(s, at, left);
+    }
+    if s[e - 1] != 44 {
+        return Begun::Ends(Part::Past(e));
+    }
+    let shape = shape_of(s[at]);
+    let r = heading(s, space(s, e), shape);
+    match r {
+        Part::Past(n) => Begun::Inner {
+            at: n,
+            shape: shape,
+        },
+        Part::Fails(v) => Begun::Ends(Part::Fails(v)),
+    }
+}
+
+// The value at a place, where at most so many levels may be opened.
 pub fn value(s: &[u8], at: usize, left: usize) -> Part
     requires { ⌜ at ≤ length (now s) ⌝ }
     ensures { λ r. ⌜ Goes (now (s .entry)) (value left ∷ []) at r ⌝ }
 {
-    let e = quick::front(s, at, left);
-    let mut i = e;
-    let mut shape = Shape::List;
-    if e == 0 {
-        let b = begin(s, at, left);
-        match b {
-            Begun::Ends(p) => {
-                return p;
-            }
-            Begun::Inner {
-                at: first,
-                shape: found,
-            } => {
-                i = first;
-                shape = found;
-            }
-        }
-    } else {
-        if s[e - 1] != 44 {
-            return Part::Past(e);
-        }
-        i = space(s, e);
-    }
-    loop {
-        let r = value(s, i, left - 1);
-        let Part::Past(n) = r else {
-            return r;
-        };
-        let q = follow(s, n, shape);
-        match q {
-            Next::Inner(m) => {
-                i = m;
-            }
-            Next::Closed(e) => {
-                return Part::Past(e);
-            }
-            Next::Fails(v) => {
-                return Part::Fails(v);
+    let b = entered(s, at, left);
+    match b {
+        Begun::Ends(p) => p,
+        Begun::Inner { at: first, shape } => {
+            let mut i = first;
+            loop {
+                let r = value(s, i, left - 1);
+                let Part::Past(n) = r else {
+                    return r;
+                };
+                let q = follow(s, n, shape);
+                match q {
+                    Next::Inner(m) => {
+                        i = m;
+                    }
+                    Next::Closed(e) => {
+                        return Part::Past(e);
+                    }
+                    Next::Fails(v) => {
+                        return Part::Fails(v);
+                    }
+                }
             }
         }
     }

@@ -1,14 +1,19 @@
 -- Quick ways: where they answer a place, what they passed is read byte by byte to the same place.
 use mathlib.Core.Path.{_≡_, refl, sym, ap, _∙_, subst}
-use mathlib.Core.List.{List, [], _∷_}
+use mathlib.Core.List.{List, [], _∷_, _++_}
 use Prim.Native.Nat.{ℕ, _+_, _-_, _≤_, _<_}
 use native.Mathlib.Omega.{arith}
 use lib.ListN.{length, getD}
-use Rattle.text.specs.Machine.{Item, ws, byte, text, value, first, next, before, inner}
-use Rattle.text.specs.Reading.{Leads, Done, Quick, Quoted, Listed, Fronts, Enters}
+use Rattle.chars.specs.Base.{At}
+use Rattle.text.specs.Machine.{Item, ws, byte, text, value, first, next, before, inner, close, opener}
+use Rattle.text.specs.Reading.{Leads, Done, Falls, Goes, Quick, Quoted, Named, Gathered, Fronts, Enters}
+use Rattle.text.specs.Reading.{shapeOf, ahead}
+use Rattle.text.specs.declared.verdict.Verdict.{Verdict}
+use Rattle.text.specs.declared.verdict.Part.{Part}
+use Rattle.text.specs.declared.verdict.Part.the-variants.{Past, Fails}
 use Rattle.text.specs.declared.scan.Shape.{Shape}
 use Rattle.text.specs.declared.scan.Shape.the-variants.{List as list, Object as object}
-use Rattle.text.proofs.Laws.Reading.{seq, frame, takes}
+use Rattle.text.proofs.Laws.Reading.{seq, frame, fall, fall-frame, past, fell, takes}
 use Rattle.text.proofs.Laws.Moves.Bytes.{byte-is}
 use Rattle.text.proofs.Laws.Moves.Strings.{text-quote}
 use Rattle.text.proofs.Laws.Moves.Values.{value-text, next-close}
@@ -40,62 +45,76 @@ quick-string {s} {a} {j} p h e =
       quote = λ z. last s j ∙ e;
     }
 
-pub quick-name : {s : List ℕ} {i n m e : ℕ} → i < length s → getD s i 0 ≡ 34 → Done s (text ∷ []) (i + 1) n
-    → Done s (ws ∷ []) n m → m < length s → getD s m 0 ≡ 58 → Done s (ws ∷ []) (m + 1) e → Quick s (before object) i e
-quick-name {s} {i} {n} {m} h q t w g c x =
-    some
-    (seq (takes (byte 34) (text ∷ ws ∷ byte 58 ∷ ws ∷ []) [] h (byte-is (getD s i 0) 34 q))
-    (seq (frame (ws ∷ byte 58 ∷ ws ∷ []) t)
-    (seq (frame (byte 58 ∷ ws ∷ []) w) (seq (takes (byte 58) (ws ∷ []) [] g (byte-is (getD s m 0) 58 c)) x))))
+pub unnamed : {s : List ℕ} {a : ℕ} → Named s a 0
+unnamed = record { done = λ h. absurd (h refl); quote = λ h. absurd (h refl) }
 
-pub quick-before : {s : List ℕ} {i r : ℕ} {sh : Shape} → sh ≡ object → Quick s (before object) i r → (r ≡ 0 → ⊥)
+pub quick-name : {s : List ℕ} {i n m e : ℕ} → i < length s → getD s i 0 ≡ 34 → Done s (text ∷ []) (i + 1) n
+    → Done s (ws ∷ []) n m → m < length s → getD s m 0 ≡ 58 → Done s (ws ∷ []) (m + 1) e → Named s i e
+quick-name {s} {i} {n} {m} h q t w g c x =
+    record {
+      done = λ z.
+          seq (takes (byte 34) (text ∷ ws ∷ byte 58 ∷ ws ∷ []) [] h (byte-is (getD s i 0) 34 q))
+          (seq (frame (ws ∷ byte 58 ∷ ws ∷ []) t)
+          (seq (frame (byte 58 ∷ ws ∷ []) w) (seq (takes (byte 58) (ws ∷ []) [] g (byte-is (getD s m 0) 58 c)) x)));
+      quote = λ z. record { inside = h; is = q };
+    }
+
+pub quick-before : {s : List ℕ} {i r : ℕ} {sh : Shape} → sh ≡ object → Named s i r → (r ≡ 0 → ⊥)
     → Done s (before sh) i r
 quick-before {s} {i} {r} e q h = subst (λ (x : Shape). Done s (before x) i r) (sym e) (q .done h)
 
--- ---- strings of a list: at a quote another of them is owed, be it the first or one behind a comma
+-- ---- strings of a list, members of an object: at a quote another of them is owed, be it the first or one behind a
+-- comma
 
-pub unlisted : {s : List ℕ} {a : ℕ} → Listed s a 0
-unlisted = record { high = λ h. absurd (h refl); ended = λ n h. absurd (h refl); more = λ n h. absurd (h refl) }
+pub ungathered : {s : List ℕ} {sh : Shape} {n a : ℕ} → Gathered s sh n a 0
+ungathered = record { high = λ h. absurd (h refl); ended = λ h. absurd (h refl); more = λ h. absurd (h refl) }
 
--- `b` is what is answered, if no string stands at `i`
-pub record Strung (s : List ℕ) (a i b : ℕ) : Type 0 where
+-- `b` is what is answered, if none that is passed stands at `i`
+pub record Strung (s : List ℕ) (sh : Shape) (n a i b : ℕ) : Type 0 where
   pub high : i ≤ length s
-  pub told : Listed s a b
-  pub at-any : (n : ℕ) → i < length s → getD s i 0 ≡ 34 → Leads s (ws ∷ first list n ∷ []) a (inner list n) i
+  pub told : Gathered s sh n a b
+  pub due : At s i 34 → Leads s (ws ∷ first sh n ∷ []) a (before sh ++ inner sh n) i
 
-pub strung-first : {s : List ℕ} {a i : ℕ} → Done s (ws ∷ []) a i → Strung s a i 0
-strung-first w =
-    record { high = w .high; told = unlisted; at-any = λ n h e. to-inner w h (λ c. omega (arith, e, c)) n }
+-- neither a quote nor a comma closes anything
+quote-opens : (sh : Shape) {b : ℕ} → b ≡ 34 → b ≡ close sh → ⊥
+quote-opens list e c = omega arith
+quote-opens object e c = omega arith
 
-module _ {s : List ℕ} {a i b e c : ℕ} (w : Strung s a i b) (h : i < length s) (q : getD s i 0 ≡ 34)
-    (t : Done s (text ∷ []) (i + 1) e) (x : Done s (ws ∷ []) e c) (g : c < length s) where
-  behind : (n : ℕ) → Leads s (ws ∷ first list n ∷ []) a (next list n ∷ []) c
-  behind n =
-      seq (w .at-any n h q)
-      (seq (takes (value n) (ws ∷ next list n ∷ []) (text ∷ []) h (value-text (getD s i 0) n q))
-      (seq (frame (ws ∷ next list n ∷ []) t) (frame (next list n ∷ []) x)))
+comma-parts : (sh : Shape) {b : ℕ} → b ≡ 44 → b ≡ close sh → ⊥
+comma-parts list e c = omega arith
+comma-parts object e c = omega arith
 
-  pub strung-close : getD s c 0 ≡ 93 → Listed s a (c + 1)
+pub strung-first : {s : List ℕ} {sh : Shape} {n a i : ℕ} → Done s (ws ∷ []) a i → Strung s sh n a i 0
+strung-first {sh = sh} {n = n} w =
+    record { high = w .high; told = ungathered; due = λ q. to-inner w (q .inside) (quote-opens sh (q .is)) n }
+
+pub string-value : {s : List ℕ} {i e : ℕ} (n : ℕ) → At s i 34 → Done s (text ∷ []) (i + 1) e → Done s (value n ∷ []) i e
+string-value n q t = seq (takes (value n) [] (text ∷ []) (q .inside) (value-text _ n (q .is))) t
+
+module _ {s : List ℕ} {sh : Shape} {n a i b v e c : ℕ} (w : Strung s sh n a i b) (q : At s i 34)
+    (p : Done s (before sh) i v) (d : Done s (value n ∷ []) v e) (x : Done s (ws ∷ []) e c) (g : c < length s) where
+  behind : Leads s (ws ∷ first sh n ∷ []) a (next sh n ∷ []) c
+  behind =
+      seq (w .due q)
+      (seq (frame (inner sh n) p) (seq (frame (ws ∷ next sh n ∷ []) d) (frame (next sh n ∷ []) x)))
+
+  pub strung-close : getD s c 0 ≡ close sh → Gathered s sh n a (c + 1)
   strung-close z =
       record {
         high = λ y. omega arith;
-        ended = λ n y d. seq (behind n) (takes (next list n) [] [] g (next-close (getD s c 0) list n z));
-        more = λ n y d. absurd (omega (arith, z, d, last s c));
+        ended = λ y f. seq behind (takes (next sh n) [] [] g (next-close (getD s c 0) sh n z));
+        more = λ y f. absurd (comma-parts sh (sym (last s c) ∙ f) z);
       }
 
-  comma : getD s c 0 ≡ 44 → (n : ℕ) → Leads s (ws ∷ first list n ∷ []) a (ws ∷ inner list n) (c + 1)
-  comma z n = seq (behind n) (next-goes list n g z)
+  comma : getD s c 0 ≡ 44 → Leads s (ws ∷ first sh n ∷ []) a (ahead sh n) (c + 1)
+  comma z = seq behind (next-goes sh n g z)
 
-  pub strung-more : {j : ℕ} → getD s c 0 ≡ 44 → Done s (ws ∷ []) (c + 1) j → Strung s a j (c + 1)
-  strung-more z v =
+  pub strung-more : {j : ℕ} → getD s c 0 ≡ 44 → Done s (ws ∷ []) (c + 1) j → Strung s sh n a j (c + 1)
+  strung-more z y =
       record {
-        high = v .high;
-        told = record {
-          high = λ y. omega arith;
-          ended = λ n y d. absurd (d (last s c ∙ z));
-          more = λ n y d. comma z n;
-        };
-        at-any = λ n y d. seq (comma z n) (frame (inner list n) v);
+        high = y .high;
+        told = record { high = λ u. omega arith; ended = λ u f. absurd (f (last s c ∙ z)); more = λ u f. comma z };
+        due = λ u. seq (comma z) (frame (before sh ++ inner sh n) y);
       }
 
 -- ---- the front of a value
@@ -103,36 +122,51 @@ module _ {s : List ℕ} {a i b e c : ℕ} (w : Strung s a i b) (h : i < length s
 pub no-front : {s : List ℕ} {n a : ℕ} → Fronts s n a 0
 no-front =
     record {
+      inside = λ h. absurd (h refl);
       high = λ h. absurd (h refl);
       ended = λ h. absurd (h refl);
       left = λ h. absurd (h refl);
       more = λ h. absurd (h refl);
     }
 
+shape-is : (sh : Shape) {b : ℕ} → b ≡ opener sh → sh ≡ shapeOf b
+shape-is list e = rw e
+shape-is object e = rw e
+
 module _ {s : List ℕ} {n i r : ℕ} (h : i < length s) where
   pub front-string : getD s i 0 ≡ 34 → Quoted s (i + 1) r → Fronts s n i r
   front-string e q =
       record {
+        inside = λ z. h;
         high = λ z. q .done z .high;
-        ended = λ z d. seq (takes (value n) [] (text ∷ []) h (value-text (getD s i 0) n e)) (q .done z);
+        ended = λ z d. string-value n (record { inside = h; is = e }) (q .done z);
         left = λ z d. absurd (omega (arith, q .quote z, d));
         more = λ z d. absurd (omega (arith, q .quote z, d));
       }
 
-  pub front-list : getD s i 0 ≡ 91 → (n ≡ 0 → ⊥) → Listed s (i + 1) r → Fronts s n i r
-  front-list e m q =
+  pub front-opened : (sh : Shape) → getD s i 0 ≡ opener sh → (n ≡ 0 → ⊥) → Gathered s sh (n - 1) (i + 1) r
+      → Fronts s n i r
+  front-opened sh e m q =
       record {
+        inside = λ z. h;
         high = q .high;
-        ended = λ z d. seq (to-opened list h e m) (q .ended (n - 1) z d);
+        ended = λ z d. seq (to-opened sh h e m) (q .ended z d);
         left = λ z d. omega arith;
-        more = λ z d. seq (to-opened list h e m) (q .more (n - 1) z d);
+        more = λ z d. subst (λ (x : Shape). Leads s (value n ∷ []) i (ahead x (n - 1)) r) (shape-is sh e)
+            (seq (to-opened sh h e m) (q .more z d));
       }
 
-pub front-inner : {s : List ℕ} {n a r i : ℕ} → Fronts s n a r → (r ≡ 0 → ⊥) → getD s (r - 1) 0 ≡ 44
-    → Done s (ws ∷ []) r i → Enters s n a list i
-front-inner {n = n} f z e w = record { left = f .left z e; leads = seq (f .more z e) (frame (inner list (n - 1)) w) }
+-- what it left is gone on with behind the comma
+module _ {s : List ℕ} {n a r i : ℕ} {sh : Shape} (f : Fronts s n a r) (z : r ≡ 0 → ⊥) (e : getD s (r - 1) 0 ≡ 44)
+    (o : sh ≡ shapeOf (getD s a 0)) (w : Done s (ws ∷ []) r i) (q : Part) (g : Goes s (before sh) i q) where
+  to-heading : Leads s (value n ∷ []) a (before sh ++ inner sh (n - 1)) i
+  to-heading =
+      seq (subst (λ (x : Shape). Leads s (value n ∷ []) a (ahead x (n - 1)) r) (sym o) (f .more z e))
+      (frame (before sh ++ inner sh (n - 1)) w)
 
--- where two ways meet
-pub entered-at : {s : List ℕ} {n a i j : ℕ} {sh sh′ : Shape} → Enters s n a sh j → i ≡ j → sh′ ≡ sh → Enters s n a sh′ i
-entered-at {s} {n} {a} {i} {j} {sh} {sh′} w e q =
-    subst (λ (x : ℕ). Enters s n a sh′ x) (sym e) (subst (λ (x : Shape). Enters s n a x j) (sym q) w)
+  pub front-inner : (m : ℕ) → q ≡ Past m → Enters s n a sh m
+  front-inner m c =
+      record { left = f .left z e; leads = seq to-heading (frame (inner sh (n - 1)) (past (before sh) q m c g)) }
+
+  pub front-fails : (v : Verdict) → q ≡ Fails v → Falls s (value n ∷ []) a v
+  front-fails v c = fall to-heading (fall-frame (inner sh (n - 1)) (fell (before sh) q v c g))

@@ -1,17 +1,17 @@
 -- A quote, a string, white space, a colon and white space, each where the one before it ends.
-use Rattle.text.proofs.Laws.Quick.{none, quick-name}
+use Rattle.text.proofs.Laws.Quick.{unnamed, quick-name}
 use borrow.Author.Needs.{needs}
 use Rattle.text.proofs.quick.member.Statement.{statement}
 use Rattle.text.proofs.quick.member.Tie as tie
 
 returns : tie.Need-returns
-returns c = none
+returns c = unnamed
 
 shared-slice-read-if2 : tie.Need-shared-slice-read-if2
 shared-slice-read-if2 c = search needs
 
 returns-2 : tie.Need-returns-2
-returns-2 c = none
+returns-2 c = unnamed
 
 add-string : tie.Need-add-string
 add-string c = search needs
@@ -20,19 +20,19 @@ string-requires : tie.Need-string-requires
 string-requires c κs = search needs
 
 returns-3 : tie.Need-returns-3
-returns-3 c = none
+returns-3 c = unnamed
 
 space-requires : tie.Need-space-requires
 space-requires c κs = c .before .string .ensures .done (c .if3 .left) .high
 
 returns-4 : tie.Need-returns-4
-returns-4 c = none
+returns-4 c = unnamed
 
 shared-slice-read-if5 : tie.Need-shared-slice-read-if5
 shared-slice-read-if5 c = search needs
 
 returns-5 : tie.Need-returns-5
-returns-5 c = none
+returns-5 c = unnamed
 
 add-space : tie.Need-add-space
 add-space c = search needs

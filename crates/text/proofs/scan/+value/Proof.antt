@@ -1,7 +1,6 @@
 -- The first inner value takes one of the levels left, so `left` falls at each call; the loop's place is always that
--- of an inner value owed: the first, or the one that the quick way left.
+-- of an inner value owed.
 use mathlib.Core.List.{[], _∷_}
-use mathlib.Core.Logic.{⊎-elim}
 use Prim.Native.Nat.{ℕ, _-_, _<_}
 use native.Mathlib.Omega.{arith}
 use lib.ListN.{length}
@@ -9,17 +8,14 @@ use Rattle.text.specs.Machine.{ws, value as valued, next}
 use Rattle.text.specs.Reading.{Enters}
 use Rattle.text.proofs.Laws.Reading.{past, failed}
 use Rattle.text.proofs.Laws.Values.{entered, ended, inner-more, inner-later, inner-closed, inner-stops}
-use Rattle.text.proofs.Laws.Quick.{front-inner, entered-at}
 use borrow.Author.Needs.{needs}
 use borrow.Fn.Kinds.{In}
 use borrow.Fn.PlainCycle.{Measures, is, falls, and}
 use Rattle.text.proofs.scan.value.Reads as value
 use Rattle.text.proofs.scan.value.Kinds as value-kinds
 use Rattle.text.proofs.scan.+value.Lts-value as value-lts
-use Rattle.text.proofs.scan.begin.Reads as begin-reads
+use Rattle.text.proofs.scan.entered.Reads as entered-reads
 use Rattle.text.proofs.scan.follow.Reads as follow-reads
-use Rattle.text.proofs.quick.front.Reads as front-reads
-use Rattle.text.proofs.scan.space.Reads as space-reads
 use Rattle.text.proofs.scan.+value.{statement}
 use Rattle.text.proofs.scan.+value.Tie.{close}
 
@@ -34,12 +30,8 @@ value-below t = and 1 value-kinds.ps (falls 1 value-kinds.ps _<_ μ-value t) val
 
 abbrev calls : ℕ → value-lts.Claims
 calls t = (
-  front-reads.Asked,
-  front-reads.Learnt,
-  begin-reads.Asked,
-  begin-reads.Learnt,
-  space-reads.Asked,
-  space-reads.Learnt,
+  entered-reads.Asked,
+  entered-reads.Learnt,
   value-below t,
   value.Post,
   follow-reads.Asked,
@@ -47,51 +39,29 @@ calls t = (
 )
 
 abbrev Inv-loop : value-lts.InvT-loop
-Inv-loop s at left e i₀ shape i = Enters s left at shape i
+Inv-loop s at left first shape i₀ i = Enters s left at shape i
 
 abbrev μ-loop : value-lts.MeasureT-loop
-μ-loop s at left e i₀ shape i = length s - i
+μ-loop s at left first shape i₀ i = length s - i
 
-front-requires : (t : ℕ) → value-lts.Need-front-requires (calls t) (value-at t) value.Post Inv-loop μ-loop
-front-requires t c κs = c .before .pre .1
-
-begin-requires : (t : ℕ) → value-lts.Need-begin-requires (calls t) (value-at t) value.Post Inv-loop μ-loop
-begin-requires t c κs = c .before .before .before .pre .1
+entered-requires : (t : ℕ) → value-lts.Need-entered-requires (calls t) (value-at t) value.Post Inv-loop μ-loop
+entered-requires t c κs = c .before .pre .1
 
 enum-known-b : (t : ℕ) → value-lts.Need-enum-known-b (calls t) (value-at t) value.Post Inv-loop μ-loop
 enum-known-b t c = search needs
 
-returns : (t : ℕ) → value-lts.Need-returns (calls t) (value-at t) value.Post Inv-loop μ-loop
-returns t c = ended _ _ _ _ _ (c .before .b .given .1) (c .before .before .before .begin .ensures)
-
 enum-known-b-2 : (t : ℕ) → value-lts.Need-enum-known-b-2 (calls t) (value-at t) value.Post Inv-loop μ-loop
 enum-known-b-2 t c = search needs
 
-sub-if2 : (t : ℕ) → value-lts.Need-sub-if2 (calls t) (value-at t) value.Post Inv-loop μ-loop
-sub-if2 t c = search needs
-
-shared-slice-read-if2 : (t : ℕ) → value-lts.Need-shared-slice-read-if2 (calls t) (value-at t) value.Post Inv-loop μ-loop
-shared-slice-read-if2 t c = omega (arith, c .before .before .front .ensures .high (c .before .if1 .left))
-
-returns-2 : (t : ℕ) → value-lts.Need-returns-2 (calls t) (value-at t) value.Post Inv-loop μ-loop
-returns-2 t c = c .before .before .before .front .ensures .ended (c .before .before .if1 .left) (c .if2 .taken)
-
-space-requires : (t : ℕ) → value-lts.Need-space-requires (calls t) (value-at t) value.Post Inv-loop μ-loop
-space-requires t c κs = c .before .before .before .front .ensures .high (c .before .before .if1 .left)
-
 loop-holds : (t : ℕ) → value-lts.Need-loop-holds (calls t) (value-at t) value.Post Inv-loop μ-loop
-loop-holds t c =
-    ⊎-elim
-    (λ w. entered-at (entered _ _ _ _ _ _ (w .3 .given .1) (w .1 .ensures)) (w .5) (w .6))
-    (λ w. entered-at (front-inner (c .before .front .ensures) (w .0 .left) (w .2 .left) (w .3 .ensures)) (w .4) (w .5))
-    (c .if1 .came)
+loop-holds t c = entered _ _ _ _ _ _ (c .before .b2 .given .1) (c .before .before .before .entered .ensures)
 
 sub-value : (t : ℕ) → value-lts.Need-sub-value (calls t) (value-at t) value.Post Inv-loop μ-loop
 sub-value t c = omega (arith, c .loop .inv .left)
 
 value-requires : (t : ℕ) → value-lts.Need-value-requires (calls t) (value-at t) value.Post Inv-loop μ-loop
 value-requires t c κs =
-    let pre = c .before .before .before .before .pre in
+    let pre = c .before .before .before .before .before .before .pre in
     (omega (arith, pre .0, c .loop .inv .left), c .loop .inv .leads .high)
 
 enum-known-r : (t : ℕ) → value-lts.Need-enum-known-r (calls t) (value-at t) value.Post Inv-loop μ-loop
@@ -100,19 +70,19 @@ enum-known-r t c = search needs
 enum-told : (t : ℕ) → value-lts.Need-enum-told (calls t) (value-at t) value.Post Inv-loop μ-loop
 enum-told t c = search needs
 
-returns-3 : (t : ℕ) → value-lts.Need-returns-3 (calls t) (value-at t) value.Post Inv-loop μ-loop
-returns-3 t c =
+returns : (t : ℕ) → value-lts.Need-returns (calls t) (value-at t) value.Post Inv-loop μ-loop
+returns t c =
+    let args = c .before .before .before .before .before .before .before .before .before .args in
+    let b2 = c .before .before .before .before .before .b2 in
     let loop = c .before .before .before .loop in
-    let joined = c .before .before .before .before in
-    let left = joined .before .before .before .args .left in
-    failed (valued (left - 1) ∷ []) (ws ∷ next (joined .if1 .shape) (left - 1) ∷ []) _ _ (c .enum-told .given .1)
-    (loop .inv .leads) (c .before .before .value .ensures)
+    failed (valued (args .left - 1) ∷ []) (ws ∷ next (b2 .given .0 .1 .0) (args .left - 1) ∷ []) _ _
+    (c .enum-told .given .1) (loop .inv .leads) (c .before .before .value .ensures)
 
 follow-requires : (t : ℕ) → value-lts.Need-follow-requires (calls t) (value-at t) value.Post Inv-loop μ-loop
 follow-requires t c κs =
-    let turn = c .before .before .before in
-    let args = turn .before .before .before .before .before .args in
-    past (valued (args .left - 1) ∷ []) _ _ (c .before .r .given .1) (turn .value .ensures) .high
+    let args = c .before .before .before .before .before .before .before .before .before .before .args in
+    let after-value = c .before .before .before .value .ensures in
+    past (valued (args .left - 1) ∷ []) _ _ (c .before .r .given .1) after-value .high
 
 enum-known-q : (t : ℕ) → value-lts.Need-enum-known-q (calls t) (value-at t) value.Post Inv-loop μ-loop
 enum-known-q t c = search needs
@@ -120,7 +90,7 @@ enum-known-q t c = search needs
 loop-less : (t : ℕ) → value-lts.Need-loop-less (calls t) (value-at t) value.Post Inv-loop μ-loop
 loop-less t c =
     let turn = c .before .before .before .before .before .before .before .before in
-    let left = turn .before .before .before .before .args .left in
+    let left = turn .before .before .before .before .before .before .args .left in
     let read = c .before .before .before .before .before .before .before .value .ensures in
     let after-follow = c .before .before .before .follow .ensures in
     let inner = past (valued (left - 1) ∷ []) _ _ (c .before .before .before .before .before .r .given .1) read in
@@ -131,7 +101,7 @@ loop-less t c =
 loop-again : (t : ℕ) → value-lts.Need-loop-again (calls t) (value-at t) value.Post Inv-loop μ-loop
 loop-again t c =
     let turn = c .before .before .before .before .before .before .before .before in
-    let left = turn .before .before .before .before .args .left in
+    let left = turn .before .before .before .before .before .before .args .left in
     let read = c .before .before .before .before .before .before .before .value .ensures in
     let after-follow = c .before .before .before .follow .ensures in
     let inner = past (valued (left - 1) ∷ []) _ _ (c .before .before .before .before .before .r .given .1) read in
@@ -140,10 +110,10 @@ loop-again t c =
 enum-known-q-2 : (t : ℕ) → value-lts.Need-enum-known-q-2 (calls t) (value-at t) value.Post Inv-loop μ-loop
 enum-known-q-2 t c = search needs
 
-returns-4 : (t : ℕ) → value-lts.Need-returns-4 (calls t) (value-at t) value.Post Inv-loop μ-loop
-returns-4 t c =
+returns-2 : (t : ℕ) → value-lts.Need-returns-2 (calls t) (value-at t) value.Post Inv-loop μ-loop
+returns-2 t c =
     let turn = c .before .before .before .before .before .before .before .before in
-    let left = turn .before .before .before .before .args .left in
+    let left = turn .before .before .before .before .before .before .args .left in
     let read = c .before .before .before .before .before .before .before .value .ensures in
     let after-follow = c .before .before .before .follow .ensures in
     let inner = past (valued (left - 1) ∷ []) _ _ (c .before .before .before .before .before .r .given .1) read in
@@ -152,37 +122,35 @@ returns-4 t c =
 enum-known-q-3 : (t : ℕ) → value-lts.Need-enum-known-q-3 (calls t) (value-at t) value.Post Inv-loop μ-loop
 enum-known-q-3 t c = search needs
 
-returns-5 : (t : ℕ) → value-lts.Need-returns-5 (calls t) (value-at t) value.Post Inv-loop μ-loop
-returns-5 t c =
+returns-3 : (t : ℕ) → value-lts.Need-returns-3 (calls t) (value-at t) value.Post Inv-loop μ-loop
+returns-3 t c =
     let turn = c .before .before .before .before .before .before .before .before in
-    let left = turn .before .before .before .before .args .left in
+    let left = turn .before .before .before .before .before .before .args .left in
     let read = c .before .before .before .before .before .before .before .value .ensures in
     let after-follow = c .before .before .before .follow .ensures in
     let inner = past (valued (left - 1) ∷ []) _ _ (c .before .before .before .before .before .r .given .1) read in
     inner-stops (turn .loop .inv) inner _ after-follow _ (c .before .q3 .given .1)
 
+returns-4 : (t : ℕ) → value-lts.Need-returns-4 (calls t) (value-at t) value.Post Inv-loop μ-loop
+returns-4 t c = ended _ _ _ _ _ (c .before .b .given .1) (c .before .before .before .entered .ensures)
+
 pub +value-spec : {M : Type 1} → statement M
 +value-spec = close μ-value λ t. value-lts.spec (calls t) (value-at t) value.Post Inv-loop μ-loop
-    (front-requires t)
-    (begin-requires t)
+    (entered-requires t)
     (enum-known-b t)
-    (returns t)
     (enum-known-b-2 t)
-    (sub-if2 t)
-    (shared-slice-read-if2 t)
-    (returns-2 t)
-    (space-requires t)
     (loop-holds t)
     (sub-value t)
     (value-requires t)
     (enum-known-r t)
     (enum-told t)
-    (returns-3 t)
+    (returns t)
     (follow-requires t)
     (enum-known-q t)
     (loop-less t)
     (loop-again t)
     (enum-known-q-2 t)
-    (returns-4 t)
+    (returns-2 t)
     (enum-known-q-3 t)
-    (returns-5 t)
+    (returns-3 t)
+    (returns-4 t)

@@ -1,0 +1,13 @@
+-- A brace opens an object, any other byte that opens is a bracket.
+use borrow.Author.Tests.{eq-eqb, ne-eqb}
+use Rattle.text.proofs.scan.shape_of.Statement.{statement}
+use Rattle.text.proofs.scan.shape_of.Tie as tie
+
+returns : tie.Need-returns
+returns c = simp (eq-eqb _ _ (c .if1 .taken))
+
+returns-2 : tie.Need-returns-2
+returns-2 c = simp (ne-eqb _ _ (c .if1 .left))
+
+pub shape-of-spec : {M : Type 1} → statement M
+shape-of-spec = tie.close (tie.spec returns returns-2)
