@@ -10,6 +10,8 @@ use crate::deciding::Decision;
 use policy::reading;
 use policy::reading::Read;
 use policy::refusals::Refusal;
+use policy::soon;
+use policy::soon::Early;
 
 // A record of at most so many bytes is held in a run of twice as many numbers and some more, a longer one in one of
 // 8,448.
@@ -64,13 +66,10 @@ fn decide_lent(policy: &[u8], asked: &[u8], run: &mut [u32]) -> Answer
     }
 }
 
-pub fn decide(policy: &[u8], asked: &[u8]) -> Answer
+// Decide, in a run as long as the policy needs.
+fn decide_sized(policy: &[u8], asked: &[u8]) -> Answer
     ensures { λ r. ⌜ Decides (now (policy .entry)) (now (asked .entry)) (toldAnswer r) ⌝ }
 {
-    if policy.len() <= reading::LEAST {
-        let mut run = [0u32; 256];
-        return decide_lent(policy, asked, &mut run);
-    }
     if policy.len() <= reading::TINY {
         let mut run = [0u32; 1024];
         return decide_lent(policy, asked, &mut run);
@@ -87,6 +86,34 @@ pub fn decide(policy: &[u8], asked: &[u8]) -> Answer
         let mut run = [0u32; 8192];
         return decide_lent(policy, asked, &mut run);
     }
+    if policy.len() <= reading::LONG {
+        let mut run = [0u32; 12288];
+        return decide_lent(policy, asked, &mut run);
+    }
     let mut run = [0u32; 16384];
     decide_lent(policy, asked, &mut run)
+}
+
+// The same, apart from what needs little memory.
+fn decide_any(policy: &[u8], asked: &[u8]) -> Answer
+    ensures { λ r. ⌜ Decides (now (policy .entry)) (now (asked .entry)) (toldAnswer r) ⌝ }
+{
+    decide_sized(policy, asked)
+}
+
+pub fn decide(policy: &[u8], asked: &[u8]) -> Answer
+    ensures { λ r. ⌜ Decides (now (policy .entry)) (now (asked .entry)) (toldAnswer r) ⌝ }
+{
+    if policy.len() <= reading::LEAST {
+        let mut run = [0u32; 512];
+        return decide_lent(policy, asked, &mut run);
+    }
+    if !soon::is_odd(policy) {
+        return decide_any(policy, asked);
+    }
+    let h = soon::judged(policy);
+    match h {
+        Early::Refused(f) => Answer::Refused(f),
+        Early::Unread => decide_any(policy, asked),
+    }
 }

@@ -3,6 +3,7 @@
 --   Rules              what differs between the two: how long a text may be, the refusals, what a tree comes to
 --   Says k s x         by the rules k the bytes s come to x: a refusal, or what was read
 --   Answers k h s run r   an answer tells what s comes to, and the run holds what was read as h holds it
+--   Foretells s r         a refusal that is told before a run is made is what the policy text s comes to
 -- Differs from 01: nowhere.  Pinned by: `says-some` and `says-unique` of Laws/Reading: bytes come to one outcome.
 use mathlib.Core.Path.{_≡_}
 use mathlib.Core.Bool.{Bool, true, false}
@@ -26,6 +27,8 @@ use Rattle.policy.specs.declared.refusals.Refusal.the-variants.{PolicyLi
 use Rattle.policy.specs.declared.refusals.Refusal.the-variants.{RecordLayout}
 use Rattle.policy.specs.declared.reading.Read.{Read}
 use Rattle.policy.specs.declared.reading.Read.the-variants as R
+use Rattle.policy.specs.declared.soon.Early.{Early}
+use Rattle.policy.specs.declared.soon.Early.the-variants as E
 
 -- a refusal, or what was read
 pub data Outcome (A : Type 0) : Type 0 where
@@ -91,6 +94,10 @@ pub record Knows {A : Type 0} (k : Rules A) (h : A → List ℕ) (s run : List �
 abbrev pub Answers : {A : Type 0} → Rules A → (A → List ℕ) → List ℕ → List ℕ → Read → Type 0
 Answers k h s run (R.Held n) = Knows k h s run n
 Answers k h s run (R.Refused f) = Says k s (refused f)
+
+abbrev pub Foretells : List ℕ → Early → Type 0
+Foretells s (E.Refused f) = Says policyRules s (refused f)
+Foretells s E.Unread = Unit {0}
 
 -- a run long enough for a text that is not too long
 pub record Lent (most extra : ℕ) (s run : List ℕ) : Type 0 where

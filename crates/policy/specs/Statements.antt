@@ -3,25 +3,26 @@
 --   partsOf i x r c     what a statement has besides its effect, from the values of its members
 --   statementsOf t      one statement or a list of at least one, no two with the same Sid
 --   Adds k v t e .. r   what a member of a policy is to those before it, by its word's turn k
+--   Frames s v r        a value without a policy's members is told, and one with them is an object
 --   HoldableParts ..    so do all that partsOf reads
 --   HoldablePolicy ..   a value stands at a place, and the run is at most one number shorter than its cost
 use mathlib.Core.Path.{_≡_}
-use mathlib.Core.Bool.{true, false}
+use mathlib.Core.Bool.{Bool, true, false}
 use mathlib.Core.List.{List, [], _++_}
 use Prim.Native.Nat.{ℕ, _+_, _≤_}
 use lib.ListN.{length}
 use Rattle.text.specs.Json.{Json}
-use Rattle.text.specs.Contents.{Stands}
+use Rattle.text.specs.Contents.{Stands, kindOf}
 use Rattle.syntax.specs.Limits.{runNumbers}
 use Rattle.syntax.specs.Policy.{Effect, Row, Policy}
 use Rattle.syntax.specs.Forms.{Reading, wrong, read}
 use Rattle.syntax.specs.Words.{editionWord}
 use Rattle.syntax.specs.Members.{then, isWord, Slot, none, many, one, optional, oneOrMore, differing}
 use Rattle.parts.specs.Slots.{Placed}
-use Rattle.syntax.specs.PolicyLayout.{actionOf, resourceOf, conditionOf, sidOf, statementOf, sameSid}
+use Rattle.syntax.specs.PolicyLayout.{actionOf, resourceOf, conditionOf, sidOf, statementOf, sameSid, policyOf}
 use Rattle.held.specs.Held.{heldText, heldList, heldRow, effectNumber, held}
 use Rattle.parts.specs.Room.{cost, costOf, Roomy}
-use Rattle.parts.specs.Holding.{Laid}
+use Rattle.parts.specs.Holding.{Laid, isObject}
 use Rattle.policy.specs.declared.statements.Partly.{Partly}
 use Rattle.policy.specs.declared.statements.Partly.the-variants as Y
 
@@ -76,6 +77,10 @@ abbrev pub Adds : ℕ → ℕ → Json → ℕ → List ℕ → List ℕ → ℕ
 Adds k v t e run run′ version past (Y.So version′ past′ q) =
     (Takes k v t run run′ version past version′ past′) × (q ≡ e)
 Adds k v t e run run′ version past Y.Wrong = (length run′ ≡ length run) × (Breaks k t version past)
+
+pub record Frames (s : List ℕ) (v : ℕ) (r : Bool) : Type 0 where
+  pub not : r ≡ false → (t : Json) (e : ℕ) → Stands s t v e → policyOf t ≡ wrong
+  pub object : r ≡ true → (t : Json) (e : ℕ) → Stands s t v e → isObject (kindOf t) ≡ true
 
 -- ---- room
 

@@ -5,5 +5,6 @@ pub mod reading;
 pub mod refusals;
 pub mod requests;
 pub mod rows;
+pub mod soon;
 pub mod statements;
 pub mod unfit;

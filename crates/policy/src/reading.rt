@@ -17,11 +17,10 @@ use parts::holding::Held;
 use text::scan;
 use text::verdict::Verdict;
 use text::walk;
-use text::white;
 
 // A policy text of at most so many bytes is held in a run of twice as many numbers, and a longer one in one of 16,384: to
 // make a run costs by its length, and most texts are short.
-pub const LEAST: usize = 128;
+pub const LEAST: usize = 256;
 
 pub const TINY: usize = 512;
 
@@ -30,6 +29,8 @@ pub const SMALL: usize = 1024;
 pub const SHORT: usize = 2048;
 
 pub const MIDDLE: usize = 4096;
+
+pub const LONG: usize = 6144;
 
 // What was read lies at the run's beginning, up to this place; or a refusal.
 pub enum Read {
@@ -97,20 +98,6 @@ fn judged_record(s: &[u8], run: &mut [u32]) -> Read
     }
 }
 
-// Does a text end with something else than a brace or white space? It was cut off then, and is judged at once. A hint:
-// whatever it answers, the text is read as what it is.
-fn cut_off(s: &[u8]) -> bool {
-    let n = s.len();
-    if n == 0 {
-        return true;
-    }
-    let b = s[n - 1];
-    match b {
-        125 => false,
-        _ => !white::blank(b),
-    }
-}
-
 // A policy text is read in one walk; where that is given up, it goes on another way.
 pub fn read_policy(s: &[u8], run: &mut [u32]) -> Read
     requires { ⌜ Lent policyBytes 0 (now s) (now run) ⌝ }
@@ -118,9 +105,6 @@ pub fn read_policy(s: &[u8], run: &mut [u32]) -> Read
 {
     if s.len() > limits::POLICY {
         return Read::Refused(Refusal::PolicyLength);
-    }
-    if cut_off(s) {
-        return judged_policy(s, Place::Text, run);
     }
     let h = objects::policies::policy(s, run);
     match h {

@@ -4,7 +4,7 @@ ghost use mathlib.Core.Bool.{false};
 ghost use mathlib.Core.List.{[]};
 ghost use Prim.Native.Nat.{ℕ};
 ghost use Rattle.text.specs.Json.{Json, Values, Members, list, object};
-ghost use Rattle.text.specs.Contents.{Stands, StandingObject};
+ghost use Rattle.text.specs.Contents.{Stands, Standing, StandingObject};
 ghost use Rattle.syntax.specs.Forms.{wrong};
 ghost use Rattle.syntax.specs.Members.{then, Slot, optional, each, oneOrMore, differing};
 ghost use Rattle.parts.specs.Slots.{Placed};
@@ -14,7 +14,7 @@ ghost use Rattle.parts.specs.Room.{Holdable, HoldableList, HoldableObject, Hold
 ghost use Rattle.parts.specs.Spoken.{toldEffect};
 ghost use Rattle.parts.specs.Holding.{Holds, HoldsTo, GathersTo};
 ghost use Rattle.policy.specs.Statements.{effectTold, partsOf, heldParts, Adds};
-ghost use Rattle.policy.specs.Statements.{HoldableParts, HoldablePolicy};
+ghost use Rattle.policy.specs.Statements.{HoldableParts, HoldablePolicy, Frames};
 use crate::rows;
 use held::runs;
 use parts::entries;
@@ -291,11 +291,29 @@ fn hold_members(s: &[u8], v: usize, run: &mut [u32]) -> Held
     }
 }
 
-// Has an object a policy's members, none unknown or repeated, and the right Version? If not, no statement need be looked at.
-fn is_framed(s: &[u8], v: usize) -> bool
+// Has an object the right Version, if that is its first member?
+fn begins_right(s: &[u8], v: usize) -> bool
     requires { ⌜ StandingObject (now s) v ⌝ }
     ensures { λ r. ⌜ (r ≡ false → (ms : Members) (e : ℕ) → Stands (now (s .entry)) (object ms) v e → policyOf (object ms) ≡ wrong) ⌝ }
 {
+    let m = walk::first_member(s, v);
+    let Member::Named { name, end, value } = m else {
+        return true;
+    };
+    if members::which(&s[name..end], Layout::Policy) != 1 {
+        return true;
+    }
+    words::is_edition(s, value)
+}
+
+// Has an object a policy's members, none unknown or repeated, and the right Version?
+fn has_frame(s: &[u8], v: usize) -> bool
+    requires { ⌜ StandingObject (now s) v ⌝ }
+    ensures { λ r. ⌜ (r ≡ false → (ms : Members) (e : ℕ) → Stands (now (s .entry)) (object ms) v e → policyOf (object ms) ≡ wrong) ⌝ }
+{
+    if !begins_right(s, v) {
+        return false;
+    }
     let places = members::slots(s, v, Layout::Policy);
     if places[0] == 0 {
         return false;
@@ -307,14 +325,22 @@ fn is_framed(s: &[u8], v: usize) -> bool
     words::is_edition(s, version)
 }
 
+// Is a value an object with a policy's members and the right Version? If not, no statement need be looked at.
+pub fn is_framed(s: &[u8], v: usize) -> bool
+    requires { ⌜ Standing (now s) v ⌝ }
+    ensures { λ r. ⌜ Frames (now (s .entry)) v r ⌝ }
+{
+    if !holding::is_object(walk::kind_at(s, v)) {
+        return false;
+    }
+    has_frame(s, v)
+}
+
 // The policy that stands at a place, from the run's beginning on.
 pub fn hold_policy(s: &[u8], v: usize, run: &mut [u32]) -> Held
     requires { ⌜ HoldablePolicy (now s) v (now run) ⌝ }
     ensures { λ r. ⌜ ((t : Json) (e : ℕ) → Stands (now (s .entry)) t v e → Holds held (now (run .entry)) (now (run .exit)) 0 (policyOf t) r) ⌝ }
 {
-    if !holding::is_object(walk::kind_at(s, v)) {
-        return Held::Wrong;
-    }
     if !is_framed(s, v) {
         return Held::Wrong;
     }

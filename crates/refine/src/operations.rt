@@ -18,6 +18,8 @@ use decision::deciding::Decision;
 use policy::reading;
 use policy::reading::Read;
 use policy::refusals::Refusal;
+use policy::soon;
+use policy::soon::Early;
 use refined::finishing;
 use rooms::listing;
 use rooms::walking;
@@ -155,8 +157,24 @@ fn feed_sized(policy: &[u8], asked: &[u8], room: &mut [u32]) -> decision::operat
         let mut run = [0u32; 8192];
         return feed_lent(policy, asked, room, &mut run);
     }
+    if policy.len() <= reading::LONG {
+        let mut run = [0u32; 12288];
+        return feed_lent(policy, asked, room, &mut run);
+    }
     let mut run = [0u32; 16384];
     feed_lent(policy, asked, room, &mut run)
+}
+
+// The same, but for a policy that is refused before a run is made.
+fn feed_soon(policy: &[u8], asked: &[u8], room: &mut [u32]) -> decision::operations::Answer
+    requires { ⌜ isRoom (now room) ≡ true ⌝ }
+    ensures { λ r. ⌜ Feeds (now (policy .entry)) (now (asked .entry)) (now (room .entry)) (deciding.toldAnswer r) (now (room .exit)) ⌝ }
+{
+    let h = soon::soon(policy);
+    match h {
+        Early::Refused(f) => decision::operations::Answer::Refused(f),
+        Early::Unread => feed_sized(policy, asked, room),
+    }
 }
 
 pub fn feed(policy: &[u8], asked: &[u8], room: &mut [u32]) -> decision::operations::Answer
@@ -165,7 +183,7 @@ pub fn feed(policy: &[u8], asked: &[u8], room: &mut [u32]) -> decision::operatio
     if room.len() != ROOM {
         return decision::operations::Answer::Refused(Refusal::RoomLength);
     }
-    feed_sized(policy, asked, room)
+    feed_soon(policy, asked, room)
 }
 
 // Join, under a held policy.
@@ -218,8 +236,24 @@ fn join_sized(policy: &[u8], room: &mut [u32], other: &[u32]) -> Answer
         let mut run = [0u32; 8192];
         return join_lent(policy, room, other, &mut run);
     }
+    if policy.len() <= reading::LONG {
+        let mut run = [0u32; 12288];
+        return join_lent(policy, room, other, &mut run);
+    }
     let mut run = [0u32; 16384];
     join_lent(policy, room, other, &mut run)
+}
+
+// The same, but for a policy that is refused before a run is made.
+fn join_soon(policy: &[u8], room: &mut [u32], other: &[u32]) -> Answer
+    requires { ⌜ (isRoom (now room) ≡ true) × (isRoom (now other) ≡ true) ⌝ }
+    ensures { λ r. ⌜ Joins (now (policy .entry)) (now (room .entry)) (now (other .entry)) (toldDone r) (now (room .exit)) ⌝ }
+{
+    let h = soon::soon(policy);
+    match h {
+        Early::Refused(f) => Answer::Refused(f),
+        Early::Unread => join_sized(policy, room, other),
+    }
 }
 
 pub fn join(policy: &[u8], room: &mut [u32], other: &[u32]) -> Answer
@@ -231,7 +265,7 @@ pub fn join(policy: &[u8], room: &mut [u32], other: &[u32]) -> Answer
     if other.len() != ROOM {
         return Answer::Refused(Refusal::RoomLength);
     }
-    join_sized(policy, room, other)
+    join_soon(policy, room, other)
 }
 
 // Finish, under a held policy: 10, or the refined policy handed out.
@@ -288,8 +322,24 @@ fn finish_sized(policy: &[u8], room: &[u32], out: &mut [u8]) -> writing::operati
         let mut run = [0u32; 8192];
         return finish_lent(policy, room, out, &mut run);
     }
+    if policy.len() <= reading::LONG {
+        let mut run = [0u32; 12288];
+        return finish_lent(policy, room, out, &mut run);
+    }
     let mut run = [0u32; 16384];
     finish_lent(policy, room, out, &mut run)
+}
+
+// The same, but for a policy that is refused before a run is made.
+fn finish_soon(policy: &[u8], room: &[u32], out: &mut [u8]) -> writing::operations::Answer
+    requires { ⌜ isRoom (now room) ≡ true ⌝ }
+    ensures { λ r. ⌜ Finishes (now (policy .entry)) (now (room .entry)) (now (out .entry)) (writing.toldAnswer r) (now (out .exit)) ⌝ }
+{
+    let h = soon::soon(policy);
+    match h {
+        Early::Refused(f) => writing::operations::Answer::Refused(f),
+        Early::Unread => finish_sized(policy, room, out),
+    }
 }
 
 pub fn finish(policy: &[u8], room: &[u32], out: &mut [u8]) -> writing::operations::Answer
@@ -298,7 +348,7 @@ pub fn finish(policy: &[u8], room: &[u32], out: &mut [u8]) -> writing::operation
     if room.len() != ROOM {
         return writing::operations::Answer::Refused(Refusal::RoomLength);
     }
-    finish_sized(policy, room, out)
+    finish_soon(policy, room, out)
 }
 
 // An empty room.

@@ -17,6 +17,8 @@ use held::limits;
 use policy::reading;
 use policy::reading::Read;
 use policy::refusals::Refusal;
+use policy::soon;
+use policy::soon::Early;
 
 // A policy that is held in so few numbers is seldom longer than 512 bytes in its written form.
 const FEW: usize = 256;
@@ -99,13 +101,10 @@ fn restate_lent(policy: &[u8], out: &mut [u8], run: &mut [u32]) -> Answer
     }
 }
 
-pub fn restate(policy: &[u8], out: &mut [u8]) -> Answer
+// Restate, in a run as long as the policy needs.
+fn restate_sized(policy: &[u8], out: &mut [u8]) -> Answer
     ensures { λ r. ⌜ Restates (now (policy .entry)) (now (out .entry)) (toldAnswer r) (now (out .exit)) ⌝ }
 {
-    if policy.len() <= reading::LEAST {
-        let mut run = [0u32; 256];
-        return restate_lent(policy, out, &mut run);
-    }
     if policy.len() <= reading::TINY {
         let mut run = [0u32; 1024];
         return restate_lent(policy, out, &mut run);
@@ -122,6 +121,34 @@ pub fn restate(policy: &[u8], out: &mut [u8]) -> Answer
         let mut run = [0u32; 8192];
         return restate_lent(policy, out, &mut run);
     }
+    if policy.len() <= reading::LONG {
+        let mut run = [0u32; 12288];
+        return restate_lent(policy, out, &mut run);
+    }
     let mut run = [0u32; 16384];
     restate_lent(policy, out, &mut run)
+}
+
+// The same, apart from what needs little memory.
+fn restate_any(policy: &[u8], out: &mut [u8]) -> Answer
+    ensures { λ r. ⌜ Restates (now (policy .entry)) (now (out .entry)) (toldAnswer r) (now (out .exit)) ⌝ }
+{
+    restate_sized(policy, out)
+}
+
+pub fn restate(policy: &[u8], out: &mut [u8]) -> Answer
+    ensures { λ r. ⌜ Restates (now (policy .entry)) (now (out .entry)) (toldAnswer r) (now (out .exit)) ⌝ }
+{
+    if policy.len() <= reading::LEAST {
+        let mut run = [0u32; 512];
+        return restate_lent(policy, out, &mut run);
+    }
+    if !soon::is_odd(policy) {
+        return restate_any(policy, out);
+    }
+    let h = soon::judged(policy);
+    match h {
+        Early::Refused(f) => Answer::Refused(f),
+        Early::Unread => restate_any(policy, out),
+    }
 }

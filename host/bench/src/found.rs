@@ -187,10 +187,26 @@ fn faults(policy: &[u8]) -> Vec<Text> {
             bytes: [&text[..at], new, &text[at + old.len()..]].concat().into(),
         }
     };
+    let comma = |name: &str, at: usize| {
+        let at = at + text[at..].find(',').expect("a comma");
+        Text {
+            name: name.into(),
+            bytes: [&text[..at], ",", &text[at..]].concat().into(),
+        }
+    };
     vec![
-        cut("breaks at its second byte", 1),
+        cut("nothing but its first byte", 1),
+        Text {
+            name: "another second byte".into(),
+            bytes: [&text[..1], "x", &text[2..]].concat().into(),
+        },
         cut("cut off in the middle", policy.len() / 2),
         cut("last byte cut off", policy.trim_ascii_end().len() - 1),
+        comma("a comma too many in the middle", policy.len() / 2),
+        comma(
+            "a comma too many in the last statement",
+            text.rfind("Effect").expect("an effect"),
+        ),
         put("another Version", "2012-10-17", "2008-10-17"),
         put(
             "another member in the last statement",

@@ -9,12 +9,15 @@ use Rattle.decision.specs.Decision.{decide}
 use Rattle.syntax.specs.Limits.{runNumbers}
 use Rattle.held.specs.Lying.{Lies}
 use Rattle.policy.specs.Reading.{Outcome, refused, known, Rules, policyRules, recordRules, Says, Knows, Answers}
+use Rattle.policy.specs.Reading.{Foretells}
 use Rattle.decision.specs.Operations.{Decides, policy-refused, record-refused, decided, RecordDecides, refuses}
 use Rattle.decision.specs.Operations.{decides}
 use Rattle.policy.specs.declared.refusals.Refusal.{Refusal}
 use Rattle.decision.specs.declared.deciding.Decision.{Decision}
 use Rattle.policy.specs.declared.reading.Read.{Read}
 use Rattle.policy.specs.declared.reading.Read.the-variants as R
+use Rattle.policy.specs.declared.soon.Early.{Early}
+use Rattle.policy.specs.declared.soon.Early.the-variants as E
 use Rattle.policy.proofs.Laws.Reading.{outcome, says-some, says-is}
 
 -- ---- one answer
@@ -58,6 +61,10 @@ pub decides-unique : (policy asked : List ℕ) (x y : Outcome Decision) → Deci
 decides-unique policy asked x y a b = decides-is a ∙ sym (decides-is b)
 
 -- ---- the runs
+
+pub early-refused : (s : List ℕ) {r : Early} {f : Refusal} → Foretells s r → r ≡ E.Refused f
+    → Says policyRules s (refused f)
+early-refused s a e = subst (Foretells s) e a
 
 module _ {A : Type 0} (k : Rules A) (h : A → List ℕ) (s run : List ℕ) where
   pub answers-held : {r : Read} {n : ℕ} → Answers k h s run r → r ≡ R.Held n → Knows k h s run n

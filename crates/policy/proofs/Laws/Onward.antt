@@ -12,7 +12,6 @@ use Rattle.text.specs.Json.{levels}
 use Rattle.text.specs.Contents.{Entering}
 use Rattle.text.specs.Machine.{Item, ws, before, inner, ends, from, verdictAt, verdict}
 use Rattle.text.specs.Reading.{Done, Goes}
-use Rattle.text.specs.Verdicts.{Means}
 use Rattle.text.specs.declared.scan.Shape.the-variants.{Object}
 use Rattle.text.specs.declared.verdict.Verdict.{Verdict}
 use Rattle.text.specs.declared.verdict.Verdict.the-variants.{Whole, Breaks}
@@ -21,7 +20,6 @@ use Rattle.text.specs.declared.verdict.Part.the-variants.{Past, Fails}
 use Rattle.text.proofs.Laws.Reading.{past, fell, from-empty}
 use Rattle.text.proofs.Laws.Places.{past-end}
 use Rattle.text.proofs.Laws.Sound.{all-at}
-use Rattle.text.proofs.Laws.Meaning.{verdict-means}
 use Rattle.objects.specs.declared.leaving.Owed.{Owed}
 use Rattle.objects.specs.declared.leaving.Place.{Place}
 use Rattle.objects.specs.declared.leaving.Place.the-variants as P
@@ -33,7 +31,7 @@ use Rattle.held.specs.Held.{held}
 use Rattle.objects.specs.Leaving.{within, outside, owing, placeIn, Blame, BlameAt, Leaves, Finds}
 use Rattle.policy.specs.Reading.{policyRules, Says, refused}
 use Rattle.policy.specs.declared.refusals.Refusal.the-variants.{PolicyLayout}
-use Rattle.policy.proofs.Laws.Reading.{policy-wrong}
+use Rattle.policy.proofs.Laws.Reading.{verdict-text, policy-wrong}
 
 -- ---- part by part
 
@@ -103,7 +101,7 @@ blame-at s e b = subst (λ (z : Place). BlameAt z s) (sym e) b
 pub judged-wrong : {s : List ℕ} {x : Place} → length s ≤ 16384 → Leaves s x → verdict s ≡ Whole → BlameAt x s
     → Says policyRules s (refused PolicyLayout)
 judged-wrong {s} {x} h l e b =
-    let t = subst (Means s) e (verdict-means s) in policy-wrong h t (l .blames e (t .tree) (t .says) b)
+    let t = verdict-text e in policy-wrong h t (l .blames e (t .tree) (t .says) b)
 
 -- ---- the walk's answer
 

@@ -111,12 +111,19 @@ module _ {A : Type 0} (k : Rules A) where
 
 -- ---- a whole text
 
+module _ {s : List ℕ} (e : verdict s ≡ Whole) where
+  pub verdict-text : Text levels s
+  verdict-text = subst (Means s) e (verdict-means s)
+
+  pub rooted : {v : ℕ} (r : Rooted s v) → Stands s (verdict-text .tree) v (r .stop)
+  rooted r = r .stands (verdict-text .tree) (verdict-text .says)
+
 module _ {most extra : ℕ} {s run : List ℕ} (f : Fit most extra s run) where
-  pub whole-text : Text levels s
-  whole-text = subst (Means s) (f .whole) (verdict-means s)
+  abbrev pub whole-text : Text levels s
+  whole-text = verdict-text (f .whole)
 
   pub root-stands : {v : ℕ} (r : Rooted s v) → Stands s (whole-text .tree) v (r .stop)
-  root-stands r = r .stands (whole-text .tree) (whole-text .says)
+  root-stands r = rooted (f .whole) r
 
   pub root-cost : {v : ℕ} → Rooted s v → cost (whole-text .tree) ≤ length s + 1
   root-cost r =

@@ -1,44 +1,48 @@
--- A member is unknown or repeated; Version is missing, or another.
-use Rattle.policy.proofs.Laws.Framed.{framed-not, framed-none, framed-standing, framed-other}
+-- Only an object is a policy, and only with the members of one and the right Version.
+use mathlib.Core.Path.{ap, _∙_}
+use borrow.Author.Tests.{not-true, not-false}
+use Rattle.syntax.specs.PolicyLayout.{policyOf}
+use Rattle.parts.specs.Holding.{isObject}
+use Rattle.parts.proofs.Laws.Holding.{never}
+use Rattle.parts.proofs.Laws.Several.{kind-told, is-object, object-stands}
+use Rattle.policy.proofs.Laws.StatementsPolicy.{policy-not}
 use borrow.Author.Needs.{needs}
 use Rattle.policy.proofs.statements.is_framed.Statement.{statement}
 use Rattle.policy.proofs.statements.is_framed.Tie as tie
 
-slots-requires : tie.Need-slots-requires
-slots-requires c κs = c .before .pre
+kind-at-requires : tie.Need-kind-at-requires
+kind-at-requires c κs = c .before .pre
 
-array-read-if1 : tie.Need-array-read-if1
-array-read-if1 c = search needs
+is-object-requires : tie.Need-is-object-requires
+is-object-requires c κs = search needs
 
 returns : tie.Need-returns
-returns c = λ z ms e p. framed-not ms (c .before .slots .ensures ms e p) (c .if1 .taken)
+returns c = let kind = c .before .before .kind-at in
+    let test = c .before .is-object in
+    let no = kind-told isObject (kind .ensures) (test .ensures) (not-true (test .result) (c .if1 .taken)) in
+    record { not = λ z t e p. policy-not t (no t e p); object = λ z. never z }
 
-array-read-version : tie.Need-array-read-version
-array-read-version c = search needs
+has-frame-requires : tie.Need-has-frame-requires
+has-frame-requires c κs = let pre = c .before .before .before .before .pre in
+    let kind = c .before .before .kind-at in
+    let test = c .before .is-object in
+    let yes = kind-told isObject (kind .ensures) (test .ensures) (not-false (test .result) (c .if1 .left)) in
+    record {
+      what = is-object (pre .what) (yes _ _ (pre .is)) .inside;
+      stop = pre .stop;
+      is = object-stands (pre .is) (yes _ _ (pre .is));
+    }
 
 returns-2 : tie.Need-returns-2
-returns-2 c =
-    λ z ms e p. framed-none ms (c .before .before .slots .ensures ms e p) (c .before .if1 .left) (c .if2 .taken)
-
-is-edition-requires : tie.Need-is-edition-requires
-is-edition-requires c κs =
-    let pre = c .before .before .before .before .pre in
-    framed-standing (pre .what) (c .before .before .slots .ensures (pre .what) (pre .stop) (pre .is))
-    (c .before .if1 .left) (c .if2 .left)
-
-returns-3 : tie.Need-returns-3
-returns-3 c =
-    λ z ms e p. framed-other ms (c .before .before .before .slots .ensures ms e p) (c .before .before .if1 .left)
-    (c .before .if2 .left) (c .is-edition .result) (c .is-edition .ensures) z
+returns-2 c = let kind = c .before .before .before .kind-at in
+    let test = c .before .before .is-object in
+    let yes = kind-told isObject (kind .ensures) (test .ensures) (not-false (test .result) (c .before .if1 .left)) in
+    record {
+      not = λ z t e p. ap policyOf (is-object t (yes t e p) .is)
+          ∙ c .has-frame .ensures z _ _ (object-stands p (yes t e p));
+      object = λ z. yes;
+    }
 
 pub is-framed-spec : {M : Type 1} → statement M
 is-framed-spec =
-    tie.close
-    (tie.spec
-    slots-requires
-    array-read-if1
-    returns
-    array-read-version
-    returns-2
-    is-edition-requires
-    returns-3)
+    tie.close (tie.spec kind-at-requires is-object-requires returns has-frame-requires returns-2)

@@ -9,8 +9,8 @@ use Rattle.refine.proofs.operations.feed.Tie as tie
 returns : tie.Need-returns
 returns c = no-room (ne-eqb (length (c .before .before .before .before .args .room .now)) roomNumbers (c .if1 .taken))
 
-feed-sized-requires : tie.Need-feed-sized-requires
-feed-sized-requires c κs =
+feed-soon-requires : tie.Need-feed-soon-requires
+feed-soon-requires c κs =
     eq-eqb (length (c .before .before .before .before .before .args .room .now)) roomNumbers (c .before .if1 .left)
 
 same-length : tie.Need-same-length
@@ -20,4 +20,4 @@ returns-2 : tie.Need-returns-2
 returns-2 c = search needs
 
 pub feed-spec : {M : Type 1} → statement M
-feed-spec = tie.close (tie.spec returns feed-sized-requires same-length returns-2)
+feed-spec = tie.close (tie.spec returns feed-soon-requires same-length returns-2)

@@ -9,8 +9,8 @@ use Rattle.refine.proofs.operations.finish.Tie as tie
 returns : tie.Need-returns
 returns c = no-room (ne-eqb (length (c .before .before .before .before .args .room .now)) roomNumbers (c .if1 .taken))
 
-finish-sized-requires : tie.Need-finish-sized-requires
-finish-sized-requires c κs =
+finish-soon-requires : tie.Need-finish-soon-requires
+finish-soon-requires c κs =
     eq-eqb (length (c .before .before .before .before .before .args .room .now)) roomNumbers (c .before .if1 .left)
 
 same-length : tie.Need-same-length
@@ -20,4 +20,4 @@ returns-2 : tie.Need-returns-2
 returns-2 c = search needs
 
 pub finish-spec : {M : Type 1} → statement M
-finish-spec = tie.close (tie.spec returns finish-sized-requires same-length returns-2)
+finish-spec = tie.close (tie.spec returns finish-soon-requires same-length returns-2)

@@ -56,15 +56,27 @@ slice-aggregate-finish-lent-5 : tie.Need-slice-aggregate-finish-lent-5
 slice-aggregate-finish-lent-5 c = search needs
 
 finish-lent-requires-5 : tie.Need-finish-lent-requires-5
-finish-lent-requires-5 c κs =
-    let start = c .before .before .before .before .before .before .before .before .before in
-    (record { enough = λ h. omega (arith, h); bounded = omega arith }, start .pre)
+finish-lent-requires-5 c κs = let start = c .before .before .before .before .before .before .before .before .before .before in
+    (record { enough = λ h. omega (arith, c .before .before .if5 .taken); bounded = omega arith }, start .pre)
 
 same-length-5 : tie.Need-same-length-5
 same-length-5 c = search needs
 
 returns-5 : tie.Need-returns-5
 returns-5 c = search needs
+
+slice-aggregate-finish-lent-6 : tie.Need-slice-aggregate-finish-lent-6
+slice-aggregate-finish-lent-6 c = search needs
+
+finish-lent-requires-6 : tie.Need-finish-lent-requires-6
+finish-lent-requires-6 c κs = let start = c .before .before .before .before .before .before .before .before .before .before in
+    (record { enough = λ h. omega (arith, h); bounded = omega arith }, start .pre)
+
+same-length-6 : tie.Need-same-length-6
+same-length-6 c = search needs
+
+returns-6 : tie.Need-returns-6
+returns-6 c = search needs
 
 pub finish-sized-spec : {M : Type 1} → statement M
 finish-sized-spec =
@@ -89,4 +101,8 @@ finish-sized-spec =
     slice-aggregate-finish-lent-5
     finish-lent-requires-5
     same-length-5
-    returns-5)
+    returns-5
+    slice-aggregate-finish-lent-6
+    finish-lent-requires-6
+    same-length-6
+    returns-6)

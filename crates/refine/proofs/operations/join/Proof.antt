@@ -15,8 +15,8 @@ returns-2 c =
     no-other (eq-eqb (length (start .args .room .now)) roomNumbers (c .before .if1 .left))
     (ne-eqb (length (start .args .other .now)) roomNumbers (c .if2 .taken))
 
-join-sized-requires : tie.Need-join-sized-requires
-join-sized-requires c κs =
+join-soon-requires : tie.Need-join-soon-requires
+join-soon-requires c κs =
     let start = c .before .before .before .before .before .before in (
       eq-eqb (length (start .args .room .now)) roomNumbers (c .before .before .if1 .left),
       eq-eqb (length (start .args .other .now)) roomNumbers (c .before .if2 .left),
@@ -29,4 +29,4 @@ returns-3 : tie.Need-returns-3
 returns-3 c = search needs
 
 pub join-spec : {M : Type 1} → statement M
-join-spec = tie.close (tie.spec returns returns-2 join-sized-requires same-length returns-3)
+join-spec = tie.close (tie.spec returns returns-2 join-soon-requires same-length returns-3)

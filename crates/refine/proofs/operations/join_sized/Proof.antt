@@ -44,7 +44,8 @@ slice-aggregate-join-lent-4 : tie.Need-slice-aggregate-join-lent-4
 slice-aggregate-join-lent-4 c = search needs
 
 join-lent-requires-4 : tie.Need-join-lent-requires-4
-join-lent-requires-4 c κs = search needs
+join-lent-requires-4 c κs = let start = c .before .before .before .before .before .before .before .before .before in
+    (record { enough = λ h. omega (arith, c .before .before .if4 .taken); bounded = omega arith }, start .pre .0, start .pre .1)
 
 same-length-4 : tie.Need-same-length-4
 same-length-4 c = search needs
@@ -56,15 +57,27 @@ slice-aggregate-join-lent-5 : tie.Need-slice-aggregate-join-lent-5
 slice-aggregate-join-lent-5 c = search needs
 
 join-lent-requires-5 : tie.Need-join-lent-requires-5
-join-lent-requires-5 c κs =
-    let start = c .before .before .before .before .before .before .before .before .before in
-    (record { enough = λ h. omega (arith, h); bounded = omega arith }, start .pre .0, start .pre .1)
+join-lent-requires-5 c κs = let start = c .before .before .before .before .before .before .before .before .before .before in
+    (record { enough = λ h. omega (arith, c .before .before .if5 .taken); bounded = omega arith }, start .pre .0, start .pre .1)
 
 same-length-5 : tie.Need-same-length-5
 same-length-5 c = search needs
 
 returns-5 : tie.Need-returns-5
 returns-5 c = search needs
+
+slice-aggregate-join-lent-6 : tie.Need-slice-aggregate-join-lent-6
+slice-aggregate-join-lent-6 c = search needs
+
+join-lent-requires-6 : tie.Need-join-lent-requires-6
+join-lent-requires-6 c κs = let start = c .before .before .before .before .before .before .before .before .before .before in
+    (record { enough = λ h. omega (arith, h); bounded = omega arith }, start .pre .0, start .pre .1)
+
+same-length-6 : tie.Need-same-length-6
+same-length-6 c = search needs
+
+returns-6 : tie.Need-returns-6
+returns-6 c = search needs
 
 pub join-sized-spec : {M : Type 1} → statement M
 join-sized-spec =
@@ -89,4 +102,8 @@ join-sized-spec =
     slice-aggregate-join-lent-5
     join-lent-requires-5
     same-length-5
-    returns-5)
+    returns-5
+    slice-aggregate-join-lent-6
+    join-lent-requires-6
+    same-length-6
+    returns-6)
