@@ -8,5 +8,4 @@ pub mod DecidingContexts
 pub mod DecidingRows
 pub mod DecidingStatement
 pub mod DecidingOrder
-pub mod Operations
 pub mod DecidingTrials

@@ -2,4 +2,3 @@
 pub mod Matching
 pub mod Decision
 pub mod Deciding
-pub mod Operations

@@ -1,4 +1,3 @@
-// The decision on a request under a policy, and Decide over bytes. Knows nothing of logs and rooms.
+// The decision on a held request under a held policy. Knows nothing of logs and rooms.
 pub mod deciding;
 pub mod matching;
-pub mod operations;

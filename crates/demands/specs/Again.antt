@@ -8,7 +8,7 @@ use Rattle.refine.specs.Operations.{Finishes}
 use Rattle.refined.specs.Finishing.{refinedPolicy}
 use Rattle.demands.specs.Logs.{Bytes}
 
--- demand 2: of Restate it is `RestatesAgain` in crates/writing/specs/Restating.antt
+-- demand 2: of Restate it is `RestatesAgain` in crates/restate/specs/Restating.antt
 abbrev pub FinishAgain : Type 0
 FinishAgain =
     (policy out after : Bytes) (room : List ℕ) (n : ℕ) (p : Policy) → Says policyRules policy (known p)

@@ -17,7 +17,7 @@ use Rattle.syntax.specs.Words.{actionNamesWord, resourceArnsWord, contextEntrie
 use Rattle.syntax.specs.Words.{contextKeyTypeWord, contextKeyValuesWord, numericTypeWord}
 use Rattle.policy.specs.Reading.{Outcome, refused, known}
 use Rattle.policy.specs.declared.refusals.Refusal.{Refusal}
-use Rattle.decision.specs.Operations.{Decides}
+use Rattle.decide.specs.Operations.{Decides}
 use Rattle.decision.specs.declared.deciding.Decision.{Decision}
 use Rattle.decision.specs.declared.deciding.Decision.the-variants.{Denied}
 use Rattle.writing.specs.WrittenForm.{writtenPolicy}

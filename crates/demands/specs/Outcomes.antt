@@ -11,9 +11,9 @@ use Rattle.syntax.specs.Policy.{Policy, Request}
 use Rattle.policy.specs.Reading.{Outcome, refused, known, policyRules, recordRules, Says}
 use Rattle.policy.specs.declared.refusals.Refusal.{Refusal}
 use Rattle.decision.specs.Decision.{decide}
-use Rattle.decision.specs.Operations.{Decides}
+use Rattle.decide.specs.Operations.{Decides}
 use Rattle.decision.specs.declared.deciding.Decision.{Decision}
-use Rattle.writing.specs.Operations.{Restates}
+use Rattle.restate.specs.Operations.{Restates}
 use Rattle.refine.specs.Operations.{Done, Feeds, Joins, Finishes, freshened}
 use Rattle.demands.specs.Logs.{Bytes}
 

@@ -27,10 +27,10 @@ fn finish(run: &[u32], room: &[u32])
     let mut out = [0u8; 6144];
     let a = refine::operations::finish_held(run, room, &mut out);
     match a {
-        writing::operations::Answer::Written(n) => {
+        restate::operations::Answer::Written(n) => {
             printing::say_result(&out, n);
         }
-        writing::operations::Answer::Refused(f) => {
+        restate::operations::Answer::Refused(f) => {
             say_refused(f);
         }
     }

@@ -27,8 +27,8 @@ fn feed_line(run: &[u32], line: &[u8], number: u64, request: &mut [u32], room: &
     }
     let a = refine::operations::feed_record(run, line, request, room);
     match a {
-        decision::operations::Answer::Decided(_) => {}
-        decision::operations::Answer::Refused(f) => {
+        decide::operations::Answer::Decided(_) => {}
+        decide::operations::Answer::Refused(f) => {
             printing::say_line(number, f);
         }
     }

@@ -14,4 +14,5 @@ pub mod Sofar
 pub mod Several
 pub mod Gathering
 pub mod Fits
+pub mod ReadParts
 pub mod Requests

@@ -19,7 +19,7 @@ use Rattle.policy.specs.declared.refusals.Refusal.the-variants.{RoomLength, Roo
 use Rattle.decision.specs.Decision.{decide}
 use Rattle.decision.specs.declared.deciding.Decision.{Decision}
 use Rattle.writing.specs.WrittenForm.{writtenPolicy}
-use Rattle.writing.specs.Operations.{handed}
+use Rattle.restate.specs.Operations.{handed}
 use Rattle.rooms.specs.Rooms.{slots, fits, charges, fed, met}
 use Rattle.refined.specs.Finishing.{refinedPolicy, hasAllow}
 use Rattle.refine.specs.declared.operations.Answer.{Answer}

@@ -19,7 +19,7 @@ use Rattle.decision.specs.Decision.{decide}
 use Rattle.decision.specs.declared.deciding.Decision.{Decision}
 use Rattle.writing.specs.Valid.{Each, Valid}
 use Rattle.writing.specs.WrittenForm.{writtenPolicy}
-use Rattle.writing.specs.Operations.{handed}
+use Rattle.restate.specs.Operations.{handed}
 use Rattle.rooms.specs.Rooms.{slots, charges, fed, met}
 use Rattle.rooms.specs.Walking.{Short}
 use Rattle.refined.specs.Finishing.{refinedPolicy, hasAllow}

@@ -1,7 +1,7 @@
 // The six operations for a host: slices in, numbers out.
 ghost use mathlib.Core.Path.{_≡_};
-ghost use Rattle.decision.specs.Operations as deciding;
-ghost use Rattle.writing.specs.Operations as writing;
+ghost use Rattle.decide.specs.Operations as deciding;
+ghost use Rattle.restate.specs.Operations as writing;
 ghost use Rattle.refine.specs.Operations.{Feeds, Joins, Finishes, freshened, toldDone};
 ghost use Rattle.refine.specs.Exports.{ofRefusal, ofDecision, ofDecided, ofWritten, ofDone, Replies};
 use crate::operations;
@@ -64,26 +64,26 @@ fn of_decision(d: Decision) -> Reply
     }
 }
 
-fn of_decided(a: decision::operations::Answer) -> Reply
+fn of_decided(a: decide::operations::Answer) -> Reply
     ensures { λ t. ⌜ t ≡ ofDecided (deciding.toldAnswer a) ⌝ }
 {
     match a {
-        decision::operations::Answer::Decided(d) => of_decision(d),
-        decision::operations::Answer::Refused(f) => of_refusal(f),
+        decide::operations::Answer::Decided(d) => of_decision(d),
+        decide::operations::Answer::Refused(f) => of_refusal(f),
     }
 }
 
-fn of_written(a: writing::operations::Answer) -> Reply
+fn of_written(a: restate::operations::Answer) -> Reply
     ensures { λ t. ⌜ t ≡ ofWritten (writing.toldAnswer a) ⌝ }
 {
     match a {
-        writing::operations::Answer::Written(n) => Reply {
+        restate::operations::Answer::Written(n) => Reply {
             number: 0,
             place: 0,
             decision: 0,
             detail: n,
         },
-        writing::operations::Answer::Refused(f) => of_refusal(f),
+        restate::operations::Answer::Refused(f) => of_refusal(f),
     }
 }
 
@@ -105,7 +105,7 @@ fn of_done(a: Answer) -> Reply
 pub extern "C" fn muckposy_decide(policy: &[u8], asked: &[u8]) -> Reply
     ensures { λ t. ⌜ Replies (λ x. deciding.Decides (now (policy .entry)) (now (asked .entry)) x) ofDecided t ⌝ }
 {
-    of_decided(decision::operations::decide(policy, asked))
+    of_decided(decide::operations::decide(policy, asked))
 }
 
 #[no_mangle]
@@ -133,7 +133,7 @@ pub extern "C" fn muckposy_finish(policy: &[u8], room: &[u32], out: &mut [u8]) -
 pub extern "C" fn muckposy_restate(policy: &[u8], out: &mut [u8]) -> Reply
     ensures { λ t. ⌜ Replies (λ x. writing.Restates (now (policy .entry)) (now (out .entry)) x (now (out .exit))) ofWritten t ⌝ }
 {
-    of_written(writing::operations::restate(policy, out))
+    of_written(restate::operations::restate(policy, out))
 }
 
 #[no_mangle]

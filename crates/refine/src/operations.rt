@@ -7,8 +7,8 @@ ghost use Rattle.held.specs.Held.{held, heldRequest};
 ghost use Rattle.held.specs.Lying.{Lies, Lying};
 ghost use Rattle.policy.specs.Reading.{Lent};
 ghost use Rattle.decision.specs.Decision.{decide};
-ghost use Rattle.decision.specs.Operations as deciding;
-ghost use Rattle.writing.specs.Operations as writing;
+ghost use Rattle.decide.specs.Operations as deciding;
+ghost use Rattle.restate.specs.Operations as writing;
 ghost use Rattle.rooms.specs.Rooms.{slots, charges, fed};
 ghost use Rattle.refine.specs.Operations.{isRoom, holdsFor, Feeds, Joins, Finishes, freshened, toldDone};
 ghost use Rattle.refine.specs.Sound.{Sound, ShortRequest, HeldSound, HeldShort, PolicyFeeds, PolicyJoins};
@@ -67,14 +67,14 @@ fn feed_asked(
     asked: &[u8],
     request: &mut [u32],
     room: &mut [u32],
-) -> decision::operations::Answer
+) -> decide::operations::Answer
     requires { ⌜ (Holding (now run) (now room)) × (Lent recordBytes 1 (now asked) (now request)) ⌝ }
     ensures { λ r. ⌜ (Holding (now (run .entry)) (now (room .exit))) × ((p : Policy) → Lies (now (run .entry)) 0 (held p) → Sound p → holdsFor p (now (room .entry)) ≡ true → PolicyFeeds p (now (asked .entry)) (now (room .entry)) (deciding.toldAnswer r) (now (room .exit))) ⌝ }
 {
     let h = reading::read_record(asked, request);
     match h {
-        Read::Held(_) => decision::operations::Answer::Decided(feed_request(run, request, room)),
-        Read::Refused(f) => decision::operations::Answer::Refused(f),
+        Read::Held(_) => decide::operations::Answer::Decided(feed_request(run, request, room)),
+        Read::Refused(f) => decide::operations::Answer::Refused(f),
     }
 }
 
@@ -84,7 +84,7 @@ pub fn feed_record(
     asked: &[u8],
     request: &mut [u32],
     room: &mut [u32],
-) -> decision::operations::Answer
+) -> decide::operations::Answer
     requires { ⌜ Kept (now run) (now request) (now room) ⌝ }
     ensures { λ r. ⌜ (Kept (now (run .entry)) (now (request .exit)) (now (room .exit))) × ((p : Policy) → Lies (now (run .entry)) 0 (held p) → Sound p → holdsFor p (now (room .entry)) ≡ true → PolicyFeeds p (now (asked .entry)) (now (room .entry)) (deciding.toldAnswer r) (now (room .exit))) ⌝ }
 {
@@ -92,15 +92,15 @@ pub fn feed_record(
 }
 
 // Feed, under a held policy whose room this is.
-fn feed_holding(run: &[u32], asked: &[u8], room: &mut [u32]) -> decision::operations::Answer
+fn feed_holding(run: &[u32], asked: &[u8], room: &mut [u32]) -> decide::operations::Answer
     requires { ⌜ Holding (now run) (now room) ⌝ }
     ensures { λ r. ⌜ ((p : Policy) → Lies (now (run .entry)) 0 (held p) → Sound p → holdsFor p (now (room .entry)) ≡ true → PolicyFeeds p (now (asked .entry)) (now (room .entry)) (deciding.toldAnswer r) (now (room .exit))) ⌝ }
 {
-    if asked.len() <= decision::operations::TERSE {
+    if asked.len() <= decide::operations::TERSE {
         let mut request = [0u32; 1056];
         return feed_asked(run, asked, &mut request, room);
     }
-    if asked.len() <= decision::operations::BRIEF {
+    if asked.len() <= decide::operations::BRIEF {
         let mut request = [0u32; 2112];
         return feed_asked(run, asked, &mut request, room);
     }
@@ -109,12 +109,12 @@ fn feed_holding(run: &[u32], asked: &[u8], room: &mut [u32]) -> decision::operat
 }
 
 // Feed, under a held policy.
-fn feed_held(run: &[u32], asked: &[u8], room: &mut [u32]) -> decision::operations::Answer
+fn feed_held(run: &[u32], asked: &[u8], room: &mut [u32]) -> decide::operations::Answer
     requires { ⌜ (HeldSound (now run)) × (isRoom (now room) ≡ true) ⌝ }
     ensures { λ r. ⌜ ((p : Policy) → Lies (now (run .entry)) 0 (held p) → Sound p → PolicyFeeds p (now (asked .entry)) (now (room .entry)) (deciding.toldAnswer r) (now (room .exit))) ⌝ }
 {
     if !holds_room(run, room) {
-        return decision::operations::Answer::Refused(Refusal::RoomContent);
+        return decide::operations::Answer::Refused(Refusal::RoomContent);
     }
     feed_holding(run, asked, room)
 }
@@ -125,19 +125,19 @@ fn feed_lent(
     asked: &[u8],
     room: &mut [u32],
     run: &mut [u32],
-) -> decision::operations::Answer
+) -> decide::operations::Answer
     requires { ⌜ (Lent policyBytes 0 (now policy) (now run)) × (isRoom (now room) ≡ true) ⌝ }
     ensures { λ r. ⌜ Feeds (now (policy .entry)) (now (asked .entry)) (now (room .entry)) (deciding.toldAnswer r) (now (room .exit)) ⌝ }
 {
     let h = reading::read_policy(policy, run);
     match h {
         Read::Held(_) => feed_held(run, asked, room),
-        Read::Refused(f) => decision::operations::Answer::Refused(f),
+        Read::Refused(f) => decide::operations::Answer::Refused(f),
     }
 }
 
 // Feed, with a room of the right length: the run is as long as the policy needs.
-fn feed_sized(policy: &[u8], asked: &[u8], room: &mut [u32]) -> decision::operations::Answer
+fn feed_sized(policy: &[u8], asked: &[u8], room: &mut [u32]) -> decide::operations::Answer
     requires { ⌜ isRoom (now room) ≡ true ⌝ }
     ensures { λ r. ⌜ Feeds (now (policy .entry)) (now (asked .entry)) (now (room .entry)) (deciding.toldAnswer r) (now (room .exit)) ⌝ }
 {
@@ -166,22 +166,22 @@ fn feed_sized(policy: &[u8], asked: &[u8], room: &mut [u32]) -> decision::operat
 }
 
 // The same, but for a policy that is refused before a run is made.
-fn feed_soon(policy: &[u8], asked: &[u8], room: &mut [u32]) -> decision::operations::Answer
+fn feed_soon(policy: &[u8], asked: &[u8], room: &mut [u32]) -> decide::operations::Answer
     requires { ⌜ isRoom (now room) ≡ true ⌝ }
     ensures { λ r. ⌜ Feeds (now (policy .entry)) (now (asked .entry)) (now (room .entry)) (deciding.toldAnswer r) (now (room .exit)) ⌝ }
 {
     let h = soon::soon(policy);
     match h {
-        Early::Refused(f) => decision::operations::Answer::Refused(f),
+        Early::Refused(f) => decide::operations::Answer::Refused(f),
         Early::Unread => feed_sized(policy, asked, room),
     }
 }
 
-pub fn feed(policy: &[u8], asked: &[u8], room: &mut [u32]) -> decision::operations::Answer
+pub fn feed(policy: &[u8], asked: &[u8], room: &mut [u32]) -> decide::operations::Answer
     ensures { λ r. ⌜ Feeds (now (policy .entry)) (now (asked .entry)) (now (room .entry)) (deciding.toldAnswer r) (now (room .exit)) ⌝ }
 {
     if room.len() != ROOM {
-        return decision::operations::Answer::Refused(Refusal::RoomLength);
+        return decide::operations::Answer::Refused(Refusal::RoomLength);
     }
     feed_soon(policy, asked, room)
 }
@@ -269,19 +269,19 @@ pub fn join(policy: &[u8], room: &mut [u32], other: &[u32]) -> Answer
 }
 
 // Finish, under a held policy: 10, or the refined policy handed out.
-pub fn finish_held(run: &[u32], room: &[u32], out: &mut [u8]) -> writing::operations::Answer
+pub fn finish_held(run: &[u32], room: &[u32], out: &mut [u8]) -> restate::operations::Answer
     requires { ⌜ (HeldSound (now run)) × (isRoom (now room) ≡ true) ⌝ }
     ensures { λ r. ⌜ ((p : Policy) → Lies (now (run .entry)) 0 (held p) → Sound p → PolicyFinishes p (now (room .entry)) (now (out .entry)) (writing.toldAnswer r) (now (out .exit))) ⌝ }
 {
     if !holds_room(run, room) {
-        return writing::operations::Answer::Refused(Refusal::RoomContent);
+        return restate::operations::Answer::Refused(Refusal::RoomContent);
     }
     if !finishing::some_allowed(run, room) {
-        return writing::operations::Answer::Refused(Refusal::NoAllow);
+        return restate::operations::Answer::Refused(Refusal::NoAllow);
     }
     let mut bytes = [0u8; 6144];
     let n = finishing::put_refined(run, room, &mut bytes);
-    writing::operations::deliver(&bytes, n, out)
+    restate::operations::deliver(&bytes, n, out)
 }
 
 // Finish, with a run lent for the policy.
@@ -290,19 +290,19 @@ fn finish_lent(
     room: &[u32],
     out: &mut [u8],
     run: &mut [u32],
-) -> writing::operations::Answer
+) -> restate::operations::Answer
     requires { ⌜ (Lent policyBytes 0 (now policy) (now run)) × (isRoom (now room) ≡ true) ⌝ }
     ensures { λ r. ⌜ Finishes (now (policy .entry)) (now (room .entry)) (now (out .entry)) (writing.toldAnswer r) (now (out .exit)) ⌝ }
 {
     let h = reading::read_policy(policy, run);
     match h {
         Read::Held(_) => finish_held(run, room, out),
-        Read::Refused(f) => writing::operations::Answer::Refused(f),
+        Read::Refused(f) => restate::operations::Answer::Refused(f),
     }
 }
 
 // Finish, with a room of the right length, likewise.
-fn finish_sized(policy: &[u8], room: &[u32], out: &mut [u8]) -> writing::operations::Answer
+fn finish_sized(policy: &[u8], room: &[u32], out: &mut [u8]) -> restate::operations::Answer
     requires { ⌜ isRoom (now room) ≡ true ⌝ }
     ensures { λ r. ⌜ Finishes (now (policy .entry)) (now (room .entry)) (now (out .entry)) (writing.toldAnswer r) (now (out .exit)) ⌝ }
 {
@@ -331,22 +331,22 @@ fn finish_sized(policy: &[u8], room: &[u32], out: &mut [u8]) -> writing::operati
 }
 
 // The same, but for a policy that is refused before a run is made.
-fn finish_soon(policy: &[u8], room: &[u32], out: &mut [u8]) -> writing::operations::Answer
+fn finish_soon(policy: &[u8], room: &[u32], out: &mut [u8]) -> restate::operations::Answer
     requires { ⌜ isRoom (now room) ≡ true ⌝ }
     ensures { λ r. ⌜ Finishes (now (policy .entry)) (now (room .entry)) (now (out .entry)) (writing.toldAnswer r) (now (out .exit)) ⌝ }
 {
     let h = soon::soon(policy);
     match h {
-        Early::Refused(f) => writing::operations::Answer::Refused(f),
+        Early::Refused(f) => restate::operations::Answer::Refused(f),
         Early::Unread => finish_sized(policy, room, out),
     }
 }
 
-pub fn finish(policy: &[u8], room: &[u32], out: &mut [u8]) -> writing::operations::Answer
+pub fn finish(policy: &[u8], room: &[u32], out: &mut [u8]) -> restate::operations::Answer
     ensures { λ r. ⌜ Finishes (now (policy .entry)) (now (room .entry)) (now (out .entry)) (writing.toldAnswer r) (now (out .exit)) ⌝ }
 {
     if room.len() != ROOM {
-        return writing::operations::Answer::Refused(Refusal::RoomLength);
+        return restate::operations::Answer::Refused(Refusal::RoomLength);
     }
     finish_soon(policy, room, out)
 }

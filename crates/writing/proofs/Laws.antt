@@ -18,7 +18,6 @@ pub mod Chars
 pub mod Plain
 pub mod Pieces
 pub mod Lying
-pub mod Handing
+pub mod Copying
 pub mod BytesRows
 pub mod BytesPolicy
-pub mod Operations

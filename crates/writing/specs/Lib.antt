@@ -4,5 +4,3 @@ pub mod Valid
 pub mod Showing
 pub mod Plain
 pub mod Bytes
-pub mod Operations
-pub mod Restating

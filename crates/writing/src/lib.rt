@@ -1,6 +1,5 @@
-// The written form of a policy, and Restate over bytes. Knows nothing of logs and rooms.
+// The written form of a held policy. Knows nothing of logs and rooms.
 pub mod entries;
-pub mod operations;
 pub mod plain;
 pub mod policies;
 pub mod rows;

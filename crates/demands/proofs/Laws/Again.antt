@@ -25,9 +25,9 @@ use Rattle.decision.specs.Decision.{sameEffect}
 use Rattle.writing.specs.Valid as Each
 use Rattle.writing.specs.Valid.{Each, Some, ValidStatement, Valid}
 use Rattle.writing.specs.WrittenForm.{writtenPolicy}
-use Rattle.writing.specs.Operations.{handed}
-use Rattle.writing.proofs.Laws.Handing.{handed-long, handed-short, handed-whole}
-use Rattle.writing.proofs.Laws.Operations.{read-limits, read-valid}
+use Rattle.restate.specs.Operations.{handed}
+use Rattle.restate.proofs.Laws.Handing.{handed-long, handed-short, handed-whole}
+use Rattle.restate.proofs.Laws.Operations.{read-limits, read-valid}
 use Rattle.writing.proofs.Laws.Tree.{written-whole, written-policy}
 use Rattle.rooms.specs.Rooms.{statementSlots, slots, fits}
 use Rattle.refined.specs.Finishing.{behind, isWhole, keptStatement, leftBy, refinedPolicy, hasAllow}

@@ -18,8 +18,8 @@ use Rattle.policy.specs.declared.refusals.Refusal.{Refusal}
 use Rattle.decision.specs.Decision.{decide}
 use Rattle.decision.specs.declared.deciding.Decision.{Decision}
 use Rattle.writing.specs.WrittenForm.{writtenPolicy}
-use Rattle.writing.specs.Operations.{handed}
-use Rattle.writing.proofs.Laws.Handing.{handed-long, handed-short, handed-whole}
+use Rattle.restate.specs.Operations.{handed}
+use Rattle.restate.proofs.Laws.Handing.{handed-long, handed-short, handed-whole}
 use Rattle.rooms.specs.Rooms.{slots, charges, fed, met}
 use Rattle.refined.specs.Finishing.{refinedPolicy, hasAllow}
 use Rattle.refine.specs.Operations.{Done, done, isRoom, holdsFor, Feeds, Joins, Finishes}

@@ -12,12 +12,12 @@ use Rattle.policy.specs.Reading.{Outcome, refused, known, policyRules, recordRu
 use Rattle.policy.specs.declared.refusals.Refusal.{Refusal}
 use Rattle.policy.proofs.Laws.Reading.{says-unique}
 use Rattle.decision.specs.Decision.{decide}
-use Rattle.decision.specs.Operations.{Decides, decided}
+use Rattle.decide.specs.Operations.{Decides, decided}
 use Rattle.decision.specs.declared.deciding.Decision.{Decision}
-use Rattle.decision.proofs.Laws.Operations.{decides-unique}
+use Rattle.decide.proofs.Laws.Operations.{decides-unique}
 use Rattle.writing.specs.WrittenForm.{writtenPolicy}
-use Rattle.writing.specs.Operations.{handed}
-use Rattle.writing.proofs.Laws.Handing.{handed-whole}
+use Rattle.restate.specs.Operations.{handed}
+use Rattle.restate.proofs.Laws.Handing.{handed-whole}
 use Rattle.candidates.specs.Candidates.{itself}
 use Rattle.candidates.specs.Rows.{contentOf}
 use Rattle.rooms.specs.Rooms.{slots, charges, fed, met}

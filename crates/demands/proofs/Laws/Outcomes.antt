@@ -11,11 +11,11 @@ use Rattle.policy.specs.declared.refusals.Refusal.{Refusal}
 use Rattle.policy.specs.declared.refusals.Refusal.the-variants.{RoomLength}
 use Rattle.policy.proofs.Laws.Reading.{outcome}
 use Rattle.decision.specs.Decision.{decide}
-use Rattle.decision.specs.Operations.{Decides, decided}
+use Rattle.decide.specs.Operations.{Decides, decided}
 use Rattle.decision.specs.declared.deciding.Decision.{Decision}
-use Rattle.decision.proofs.Laws.Operations.{answer, decides-some, decides-unique}
-use Rattle.writing.specs.Operations.{Restates}
-use Rattle.writing.proofs.Laws.Operations.{restates-some, restates-unique, refused-keeps}
+use Rattle.decide.proofs.Laws.Operations.{answer, decides-some, decides-unique}
+use Rattle.restate.specs.Operations.{Restates}
+use Rattle.restate.proofs.Laws.Operations.{restates-some, restates-unique, refused-keeps}
 use Rattle.refine.specs.Operations.{Done, done, isRoom, roomNumbers, Feeds, Joins, Finishes, freshened}
 use Rattle.refine.specs.Operations as O
 use Rattle.refine.proofs.Laws.Operations.{feeds-unique, joins-unique, finishes-unique}

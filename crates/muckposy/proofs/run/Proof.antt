@@ -2,7 +2,7 @@
 use native.Mathlib.Omega.{arith}
 use Rattle.held.specs.Held.{held}
 use Rattle.policy.specs.Reading.{policyRules}
-use Rattle.decision.proofs.Laws.Operations.{answers-held, knows-lies}
+use Rattle.decide.proofs.Laws.Operations.{answers-held, knows-lies}
 use Rattle.refine.proofs.Laws.Held.{sound-read}
 use borrow.Author.Needs.{needs}
 use Rattle.muckposy.proofs.run.Statement.{statement}

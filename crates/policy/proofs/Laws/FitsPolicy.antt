@@ -13,8 +13,8 @@ use Rattle.text.specs.Json.{Json, null, bool, number, string, list, object, Mem
 use Rattle.chars.specs.Decoding.{textOf}
 use Rattle.text.specs.Contents.{Stands}
 use Rattle.chars.proofs.Laws.Strings.Lengths.{chars-few}
-use Rattle.syntax.specs.Policy.{Effect, Operator, Row, Statement, Policy}
-use Rattle.syntax.specs.Forms.{Reading, wrong, read}
+use Rattle.syntax.specs.Policy.{Operator, Row, Statement, Policy}
+use Rattle.syntax.specs.Forms.{Reading, read}
 use Rattle.syntax.specs.Words.{versionWord, statementWord, editionWord, sidWord, effectWord, actionWord}
 use Rattle.syntax.specs.Words.{resourceWord, conditionWord}
 use Rattle.syntax.specs.Members.{then, only, isWord, Slot, none, many, one, slot, known, required, optional}
@@ -31,6 +31,7 @@ use Rattle.parts.proofs.Laws.Holding.{never}
 use Rattle.parts.proofs.Laws.Sofar.{held-append}
 use Rattle.parts.proofs.Laws.Fits.{wrong-read, then-inv, only-inv, pick-inv, members-fits, parts-fit}
 use Rattle.parts.proofs.Laws.Fits.{row-fits, action-fits, resource-fits, sid-fits}
+use Rattle.parts.proofs.Laws.ReadParts.{parts-inv}
 
 -- ---- conditions
 
@@ -113,35 +114,6 @@ module _ {A : Type 0} (size : A → ℕ) (f : Json → Reading A)
   optional-fits d z (one t) x e = omega (arith, fits t x e)
 
 -- ---- statements
-
-pub record Parts (i : Reading (List ℕ)) (e : Reading Effect) (xs rs : Reading (List (List ℕ))) (cs : Reading (List Row))
-    (x : Statement) : Type 0 where
-  pub sid-is : i ≡ read (x .sid)
-  pub effect-is : e ≡ read (x .effect)
-  pub actions-are : xs ≡ read (x .actions)
-  pub resources-are : rs ≡ read (x .resources)
-  pub rows-are : cs ≡ read (x .rows)
-
-pub parts-inv :
-    (i : Reading (List ℕ)) (e : Reading Effect) (xs rs : Reading (List (List ℕ))) (cs : Reading (List Row))
-    {x : Statement}
-    → then i (λ i. then e (λ e. then xs (λ xs. then rs (λ rs. then cs (λ cs.
-    read (record { sid = i; effect = e; actions = xs; resources = rs; rows = cs })))))) ≡ read x
-    → Parts i e xs rs cs x
-parts-inv wrong e xs rs cs h = wrong-read h
-parts-inv (read i) wrong xs rs cs h = wrong-read h
-parts-inv (read i) (read e) wrong rs cs h = wrong-read h
-parts-inv (read i) (read e) (read xs) wrong cs h = wrong-read h
-parts-inv (read i) (read e) (read xs) (read rs) wrong h = wrong-read h
-parts-inv (read i) (read e) (read xs) (read rs) (read cs) {x} h =
-    let z : record { sid = i; effect = e; actions = xs; resources = rs; rows = cs } ≡ x = cc in
-    record {
-      sid-is = ap (λ (s : Statement). read (s .sid)) z;
-      effect-is = ap (λ (s : Statement). read (s .effect)) z;
-      actions-are = ap (λ (s : Statement). read (s .actions)) z;
-      resources-are = ap (λ (s : Statement). read (s .resources)) z;
-      rows-are = ap (λ (s : Statement). read (s .rows)) z;
-    }
 
 pub statement-length : (x : Statement) → length (heldStatement x)
     ≡ 5 + length (x .sid) + length (heldEach heldText (x .actions)) + length (heldEach heldText (x .resources))

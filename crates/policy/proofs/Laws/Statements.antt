@@ -30,7 +30,7 @@ use Rattle.parts.proofs.Laws.Extends.{extends-front}
 use Rattle.parts.proofs.Laws.Room.{slotCost, slotsCost, layout-room}
 use Rattle.parts.proofs.Laws.Formed.{then-read}
 use Rattle.parts.proofs.Laws.Several.{is-object}
-use Rattle.policy.proofs.Laws.FitsPolicy.{Parts, parts-inv}
+use Rattle.parts.proofs.Laws.ReadParts.{Parts, parts-inv}
 use Rattle.policy.proofs.Laws.StatementsParts.{There, placed-absent, placed-there}
 use Rattle.policy.proofs.Laws.StatementsRead.{not-read, both-ways, pick-no, pick-wrong, pick-yes, right, turn-of}
 use Rattle.policy.proofs.Laws.StatementsRead.{required-none, slot-cost, told-wrong, told-right, withEffect}

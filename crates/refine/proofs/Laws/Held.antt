@@ -24,7 +24,7 @@ use Rattle.syntax.specs.RecordLayout.{requestOf}
 use Rattle.decision.specs.Decision.{Found, decide}
 use Rattle.decision.specs.declared.deciding.Decision.{Decision}
 use Rattle.decision.specs.declared.deciding.Decision.the-variants.{Denied, Allowed, Implicit}
-use Rattle.writing.proofs.Laws.Operations.{read-limits, read-valid}
+use Rattle.restate.proofs.Laws.Operations.{read-limits, read-valid}
 use Rattle.candidates.specs.Rows.{rowNumbers}
 use Rattle.rooms.specs.Rooms.{Slot, slots, none, allowedCharges, byDecision, charges, fed, met}
 use Rattle.rooms.specs.Listing.{noted, noteNumbers, Told, Lists, Listable}

@@ -15,7 +15,7 @@ use Rattle.policy.proofs.Laws.Reading.{outcome, says-is}
 use Rattle.decision.specs.Decision.{decide}
 use Rattle.decision.specs.declared.deciding.Decision.{Decision}
 use Rattle.writing.specs.WrittenForm.{writtenPolicy}
-use Rattle.writing.specs.Operations.{handed}
+use Rattle.restate.specs.Operations.{handed}
 use Rattle.rooms.specs.Rooms.{slots, charges, fed, met}
 use Rattle.refined.specs.Finishing.{refinedPolicy, hasAllow}
 use Rattle.refine.specs.Operations.{roomNumbers, isRoom, holdsFor, Done, done, freshened}

@@ -13,8 +13,8 @@ use Rattle.policy.proofs.Laws.Reading.{outcome, says-some}
 use Rattle.decision.specs.Decision.{decide}
 use Rattle.decision.specs.declared.deciding.Decision.{Decision}
 use Rattle.writing.specs.WrittenForm.{writtenPolicy}
-use Rattle.writing.specs.Operations.{handed}
-use Rattle.writing.proofs.Laws.Operations.{handed-kept}
+use Rattle.restate.specs.Operations.{handed}
+use Rattle.restate.proofs.Laws.Operations.{handed-kept}
 use Rattle.rooms.specs.Rooms.{slots, charges, fed, met}
 use Rattle.refined.specs.Finishing.{refinedPolicy, hasAllow}
 use Rattle.refine.specs.Operations.{isRoom, holdsFor, Done, done}

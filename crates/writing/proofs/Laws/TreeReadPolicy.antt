@@ -27,7 +27,7 @@ use Rattle.writing.specs.WrittenForm.{grouped, writtenPolicy}
 use Rattle.writing.specs.Valid.{Some, ValidAction, ValidResource, ValidRows, ValidSid, ValidStatement, Valid}
 use Rattle.writing.specs.Valid as L
 use Rattle.parts.proofs.Laws.Fits.{wrong-read, then-inv, only-inv, pick-inv}
-use Rattle.policy.proofs.Laws.FitsPolicy.{parts-inv}
+use Rattle.parts.proofs.Laws.ReadParts.{parts-inv}
 use Rattle.writing.proofs.Laws.TreeRead.{only-test, sid-valid, action-valid, resource-valid, several-valid}
 use Rattle.writing.proofs.Laws.TreeReadRows.{condition-valid}
 use Rattle.writing.proofs.Laws.Tree.{written-policy}

@@ -6,7 +6,7 @@ use native.Mathlib.Omega.{arith}
 use lib.ListN.{length}
 use lib.Seq.{take-length}
 use Rattle.chars.specs.Putting.{lay}
-use Rattle.writing.proofs.Laws.Handing.{Copied, copied-start, copied-next, copied-length, copied-end}
+use Rattle.writing.proofs.Laws.Copying.{Copied, copied-start, copied-next, copied-length, copied-end}
 use Rattle.candidates.proofs.Laws.Joining.{lay-all}
 use borrow.Author.Needs.{needs}
 use Rattle.candidates.proofs.joining.copy.Statement.{statement}

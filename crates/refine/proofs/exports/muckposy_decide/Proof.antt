@@ -5,7 +5,7 @@ use Rattle.refine.proofs.exports.muckposy_decide.Statement.{statement}
 use Rattle.refine.proofs.exports.muckposy_decide.Tie as tie
 use Rattle.refine.proofs.exports.muckposy_decide.Reads as reads
 use Rattle.refine.proofs.exports.muckposy_decide.Lts as lts
-use Rattle.decision.proofs.operations.decide.Reads as decide-reads
+use Rattle.decide.proofs.operations.decide.Reads as decide-reads
 use Rattle.refine.proofs.exports.of_decided.Reads as of-decided-reads
 
 decide-requires : tie.Need-decide-requires

@@ -6,7 +6,7 @@ use Rattle.refine.proofs.exports.muckposy_restate.Tie as tie
 use Rattle.refine.proofs.exports.muckposy_restate.Reads as reads
 use Rattle.refine.proofs.exports.muckposy_restate.Lts as lts
 use Rattle.refine.proofs.exports.of_written.Reads as of-written-reads
-use Rattle.writing.proofs.operations.restate.Reads as restate-reads
+use Rattle.restate.proofs.operations.restate.Reads as restate-reads
 
 restate-requires : tie.Need-restate-requires
 restate-requires c κs = search needs

@@ -1,7 +1,7 @@
 -- The decision's numbers, or the refusal's.
 use mathlib.Core.Path.{sym, ap, _∙_}
-use Rattle.decision.specs.Operations.{toldAnswer}
-use Rattle.decision.specs.declared.operations.Answer.{Answer}
+use Rattle.decide.specs.Operations.{toldAnswer}
+use Rattle.decide.specs.declared.operations.Answer.{Answer}
 use Rattle.refine.specs.Exports.{ofDecided}
 use borrow.Author.Needs.{needs}
 use Rattle.refine.proofs.exports.of_decided.Statement.{statement}

@@ -1,7 +1,7 @@
 -- The count, or the refusal's numbers.
 use mathlib.Core.Path.{sym, ap, _∙_}
-use Rattle.writing.specs.Operations.{toldAnswer}
-use Rattle.writing.specs.declared.operations.Answer.{Answer}
+use Rattle.restate.specs.Operations.{toldAnswer}
+use Rattle.restate.specs.declared.operations.Answer.{Answer}
 use Rattle.refine.specs.Exports.{ofWritten}
 use borrow.Author.Needs.{needs}
 use Rattle.refine.proofs.exports.of_written.Statement.{statement}

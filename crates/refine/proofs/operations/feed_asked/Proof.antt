@@ -2,7 +2,7 @@
 use native.Mathlib.Omega.{arith}
 use Rattle.held.specs.Held.{heldRequest}
 use Rattle.policy.specs.Reading.{recordRules}
-use Rattle.decision.proofs.Laws.Operations.{answers-held, answers-refused, knows-lies}
+use Rattle.decide.proofs.Laws.Operations.{answers-held, answers-refused, knows-lies}
 use Rattle.refine.specs.Sound.{no-record}
 use Rattle.refine.proofs.Laws.Held.{short-read, record-fed, holding-fed}
 use borrow.Author.Needs.{needs}

@@ -1,5 +1,5 @@
 -- The policy is refused at once; else it is read.
-use Rattle.decision.proofs.Laws.Operations.{early-refused}
+use Rattle.decide.proofs.Laws.Operations.{early-refused}
 use Rattle.refine.specs.Operations.{no-policy}
 use borrow.Author.Needs.{needs}
 use Rattle.refine.proofs.operations.feed_soon.Statement.{statement}

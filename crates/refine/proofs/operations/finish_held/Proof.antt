@@ -13,7 +13,7 @@ use Rattle.refine.proofs.operations.finish_held.Lts as lts
 use Rattle.refined.proofs.finishing.put_refined.Reads as put-refined-reads
 use Rattle.refined.proofs.finishing.some_allowed.Reads as some-allowed-reads
 use Rattle.refine.proofs.operations.holds_room.Reads as holds-room-reads
-use Rattle.writing.proofs.operations.deliver.Reads as deliver-reads
+use Rattle.restate.proofs.operations.deliver.Reads as deliver-reads
 
 holds-room-requires : tie.Need-holds-room-requires
 holds-room-requires c κs = search needs

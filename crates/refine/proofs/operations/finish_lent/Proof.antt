@@ -2,7 +2,7 @@
 use native.Mathlib.Omega.{arith}
 use Rattle.held.specs.Held.{held}
 use Rattle.policy.specs.Reading.{policyRules}
-use Rattle.decision.proofs.Laws.Operations.{answers-held, answers-refused, knows-lies}
+use Rattle.decide.proofs.Laws.Operations.{answers-held, answers-refused, knows-lies}
 use Rattle.refine.specs.Operations.{no-policy}
 use Rattle.refine.proofs.Laws.Held.{sound-read, finishes-behind}
 use borrow.Author.Needs.{needs}

@@ -1,0 +1,3 @@
+-- What the contracts of `restate` cite.
+pub mod Operations
+pub mod Restating
