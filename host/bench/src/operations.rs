@@ -135,9 +135,7 @@ macro_rules! calls {
                     });
                 }),
                 _ => Box::new(move |count| {
-                    times(count, || {
-                        $library::restate(black_box(&policy), &mut output)
-                    });
+                    times(count, || $library::restate(black_box(&policy), &mut output));
                 }),
             }
         }
