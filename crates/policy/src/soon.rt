@@ -1,9 +1,7 @@
 // What is told of a policy text before a run is made for it. Most texts are policies; one that does not look like one at
 // its beginning and its end is judged here. How it looks is a hint: whatever it says, the text is read as what it is.
-ghost use mathlib.Core.Path.{_≡_};
 ghost use Prim.Native.Nat.{_≤_};
 ghost use lib.ListN.{length};
-ghost use Rattle.syntax.specs.Limits.{policyBytes};
 ghost use Rattle.policy.specs.Reading.{Foretells};
 use crate::reading;
 use crate::refusals::Refusal;

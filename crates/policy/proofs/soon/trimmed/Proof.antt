@@ -1,6 +1,5 @@
 -- Each step goes one byte back.
 use Prim.Native.Nat.{_≤_}
-use native.Mathlib.Omega.{arith}
 use lib.ListN.{length}
 use borrow.Author.Needs.{needs}
 use Rattle.policy.proofs.soon.trimmed.Statement.{statement}
