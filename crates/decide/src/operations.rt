@@ -108,12 +108,10 @@ pub fn decide(policy: &[u8], asked: &[u8]) -> Answer
         let mut run = [0u32; 512];
         return decide_lent(policy, asked, &mut run);
     }
-    if !soon::is_odd(policy) {
-        return decide_any(policy, asked);
-    }
-    let h = soon::judged(policy);
+    let h = soon::soon(policy);
     match h {
         Early::Refused(f) => Answer::Refused(f),
-        Early::Unread => decide_any(policy, asked),
+        Early::Usual => decide_any(policy, asked),
+        Early::Whole => decide_any(policy, asked),
     }
 }

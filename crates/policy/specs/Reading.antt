@@ -97,7 +97,8 @@ Answers k h s run (R.Refused f) = Says k s (refused f)
 
 abbrev pub Foretells : List ℕ → Early → Type 0
 Foretells s (E.Refused f) = Says policyRules s (refused f)
-Foretells s E.Unread = Unit {0}
+Foretells s E.Usual = Unit {0}
+Foretells s E.Whole = verdict s ≡ Whole
 
 -- a run long enough for a text that is not too long
 pub record Lent (most extra : ℕ) (s run : List ℕ) : Type 0 where

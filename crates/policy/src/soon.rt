@@ -16,10 +16,11 @@ use text::white;
 // So far from a text's end another Version is looked for.
 const NEAR: usize = 64;
 
-// A refusal; or nothing is told.
+// A refusal; or the text looks as a policy does; or it does not, and is whole. In the last two cases it has to be read.
 pub enum Early {
     Refused(Refusal),
-    Unread,
+    Usual,
+    Whole,
 }
 
 // Where a text ends, if white space behind it is left out.
@@ -79,7 +80,7 @@ fn ends_otherwise(s: &[u8], n: usize) -> bool
 
 // Is a text too long; or no object of members, by its first bytes and its last; or has it another Version, as its first
 // member or its last?
-pub fn is_odd(s: &[u8]) -> bool {
+fn is_odd(s: &[u8]) -> bool {
     if s.len() > limits::POLICY {
         return true;
     }
@@ -107,7 +108,7 @@ pub fn is_odd(s: &[u8]) -> bool {
 }
 
 // What is told of a text by its length, its grammar and the policy's own members.
-pub fn judged(s: &[u8]) -> Early
+fn judged(s: &[u8]) -> Early
     ensures { λ r. ⌜ Foretells (now (s .entry)) r ⌝ }
 {
     if s.len() > limits::POLICY {
@@ -117,7 +118,7 @@ pub fn judged(s: &[u8]) -> Early
     match v {
         Verdict::Whole => {
             if statements::is_framed(s, walk::root(s)) {
-                return Early::Unread;
+                return Early::Whole;
             }
             Early::Refused(Refusal::PolicyLayout)
         }
@@ -126,15 +127,15 @@ pub fn judged(s: &[u8]) -> Early
     }
 }
 
-// Both, but for the least texts, which cost less to read.
+// The least texts, which cost less to read, count as usual; any other that does not look as a policy does is judged.
 pub fn soon(s: &[u8]) -> Early
     ensures { λ r. ⌜ Foretells (now (s .entry)) r ⌝ }
 {
     if s.len() <= reading::LEAST {
-        return Early::Unread;
+        return Early::Usual;
     }
     if !is_odd(s) {
-        return Early::Unread;
+        return Early::Usual;
     }
     judged(s)
 }

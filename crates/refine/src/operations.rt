@@ -171,10 +171,10 @@ fn feed_soon(policy: &[u8], asked: &[u8], room: &mut [u32]) -> decide::operation
     ensures { λ r. ⌜ Feeds (now (policy .entry)) (now (asked .entry)) (now (room .entry)) (deciding.toldAnswer r) (now (room .exit)) ⌝ }
 {
     let h = soon::soon(policy);
-    match h {
-        Early::Refused(f) => decide::operations::Answer::Refused(f),
-        Early::Unread => feed_sized(policy, asked, room),
-    }
+    let Early::Refused(f) = h else {
+        return feed_sized(policy, asked, room);
+    };
+    decide::operations::Answer::Refused(f)
 }
 
 pub fn feed(policy: &[u8], asked: &[u8], room: &mut [u32]) -> decide::operations::Answer
@@ -250,10 +250,10 @@ fn join_soon(policy: &[u8], room: &mut [u32], other: &[u32]) -> Answer
     ensures { λ r. ⌜ Joins (now (policy .entry)) (now (room .entry)) (now (other .entry)) (toldDone r) (now (room .exit)) ⌝ }
 {
     let h = soon::soon(policy);
-    match h {
-        Early::Refused(f) => Answer::Refused(f),
-        Early::Unread => join_sized(policy, room, other),
-    }
+    let Early::Refused(f) = h else {
+        return join_sized(policy, room, other);
+    };
+    Answer::Refused(f)
 }
 
 pub fn join(policy: &[u8], room: &mut [u32], other: &[u32]) -> Answer
@@ -336,10 +336,10 @@ fn finish_soon(policy: &[u8], room: &[u32], out: &mut [u8]) -> restate::operatio
     ensures { λ r. ⌜ Finishes (now (policy .entry)) (now (room .entry)) (now (out .entry)) (writing.toldAnswer r) (now (out .exit)) ⌝ }
 {
     let h = soon::soon(policy);
-    match h {
-        Early::Refused(f) => restate::operations::Answer::Refused(f),
-        Early::Unread => finish_sized(policy, room, out),
-    }
+    let Early::Refused(f) = h else {
+        return finish_sized(policy, room, out);
+    };
+    restate::operations::Answer::Refused(f)
 }
 
 pub fn finish(policy: &[u8], room: &[u32], out: &mut [u8]) -> restate::operations::Answer

@@ -143,12 +143,10 @@ pub fn restate(policy: &[u8], out: &mut [u8]) -> Answer
         let mut run = [0u32; 512];
         return restate_lent(policy, out, &mut run);
     }
-    if !soon::is_odd(policy) {
-        return restate_any(policy, out);
-    }
-    let h = soon::judged(policy);
+    let h = soon::soon(policy);
     match h {
         Early::Refused(f) => Answer::Refused(f),
-        Early::Unread => restate_any(policy, out),
+        Early::Usual => restate_any(policy, out),
+        Early::Whole => restate_any(policy, out),
     }
 }

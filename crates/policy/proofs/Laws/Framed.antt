@@ -14,9 +14,8 @@ use Rattle.syntax.specs.Forms.{wrong}
 use Rattle.syntax.specs.Words.{versionWord, editionWord}
 use Rattle.syntax.specs.Members.{only, isWord, slot, required}
 use Rattle.syntax.specs.PolicyLayout.{policyOf}
-use Rattle.parts.specs.Slots.{wordsOf, Placed, Slotted}
 use Rattle.chars.specs.Base.{part}
-use Rattle.parts.specs.Slots.{whichOf}
+use Rattle.parts.specs.Slots.{wordsOf, whichOf, Placed, Slotted}
 use Rattle.parts.specs.declared.members.Layout.the-variants as L
 use Rattle.parts.proofs.Laws.Walking.{Walking, layout-few, walking-start, walking-whole}
 use Rattle.parts.proofs.Laws.WalkingOn.{leader, walking-wrong}

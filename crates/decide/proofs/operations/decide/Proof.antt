@@ -14,17 +14,8 @@ decide-lent-requires c κs = search needs
 returns : tie.Need-returns
 returns c = search needs
 
-is-odd-requires : tie.Need-is-odd-requires
-is-odd-requires c κs = search needs
-
-decide-any-requires : tie.Need-decide-any-requires
-decide-any-requires c κs = search needs
-
-returns-2 : tie.Need-returns-2
-returns-2 c = search needs
-
-judged-requires : tie.Need-judged-requires
-judged-requires c κs = search needs
+soon-requires : tie.Need-soon-requires
+soon-requires c κs = search needs
 
 enum-known-h : tie.Need-enum-known-h
 enum-known-h c = search needs
@@ -32,11 +23,20 @@ enum-known-h c = search needs
 enum-told : tie.Need-enum-told
 enum-told c = search needs
 
+decide-any-requires : tie.Need-decide-any-requires
+decide-any-requires c κs = search needs
+
+enum-told-2 : tie.Need-enum-told-2
+enum-told-2 c = search needs
+
 decide-any-requires-2 : tie.Need-decide-any-requires-2
 decide-any-requires-2 c κs = search needs
 
+returns-2 : tie.Need-returns-2
+returns-2 c = policy-refused (early-refused _ (c .before .before .before .soon .ensures) (c .before .h .given .1))
+
 returns-3 : tie.Need-returns-3
-returns-3 c = policy-refused (early-refused _ (c .before .before .before .judged .ensures) (c .before .h .given .1))
+returns-3 c = search needs
 
 returns-4 : tie.Need-returns-4
 returns-4 c = search needs
@@ -48,12 +48,12 @@ decide-spec =
     slice-aggregate-decide-lent
     decide-lent-requires
     returns
-    is-odd-requires
-    decide-any-requires
-    returns-2
-    judged-requires
+    soon-requires
     enum-known-h
     enum-told
+    decide-any-requires
+    enum-told-2
     decide-any-requires-2
+    returns-2
     returns-3
     returns-4)

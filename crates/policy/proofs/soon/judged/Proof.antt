@@ -24,7 +24,9 @@ is-framed-requires c κs = let whole = sym (c .before .before .before .scan .ens
     record { what = _; stop = _; is = rooted whole (c .root .ensures) }
 
 returns-2 : tie.Need-returns-2
-returns-2 c = search needs
+returns-2 c =
+    let at-told = c .before .before .before in
+    sym (at-told .before .before .scan .ensures) ∙ at-told .enum-told .given .1
 
 enum-known-v : tie.Need-enum-known-v
 enum-known-v c = search needs

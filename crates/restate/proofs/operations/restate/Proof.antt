@@ -17,20 +17,8 @@ same-length c = search needs
 returns : tie.Need-returns
 returns c = search needs
 
-is-odd-requires : tie.Need-is-odd-requires
-is-odd-requires c κs = search needs
-
-restate-any-requires : tie.Need-restate-any-requires
-restate-any-requires c κs = search needs
-
-same-length-2 : tie.Need-same-length-2
-same-length-2 c = search needs
-
-returns-2 : tie.Need-returns-2
-returns-2 c = search needs
-
-judged-requires : tie.Need-judged-requires
-judged-requires c κs = search needs
+soon-requires : tie.Need-soon-requires
+soon-requires c κs = search needs
 
 enum-known-h : tie.Need-enum-known-h
 enum-known-h c = search needs
@@ -38,11 +26,23 @@ enum-known-h c = search needs
 enum-told : tie.Need-enum-told
 enum-told c = search needs
 
+restate-any-requires : tie.Need-restate-any-requires
+restate-any-requires c κs = search needs
+
+enum-told-2 : tie.Need-enum-told-2
+enum-told-2 c = search needs
+
 restate-any-requires-2 : tie.Need-restate-any-requires-2
 restate-any-requires-2 c κs = search needs
 
+returns-2 : tie.Need-returns-2
+returns-2 c = policy-refused (early-refused _ (c .before .before .before .soon .ensures) (c .before .h .given .1))
+
+same-length-2 : tie.Need-same-length-2
+same-length-2 c = search needs
+
 returns-3 : tie.Need-returns-3
-returns-3 c = policy-refused (early-refused _ (c .before .before .before .judged .ensures) (c .before .h .given .1))
+returns-3 c = search needs
 
 same-length-3 : tie.Need-same-length-3
 same-length-3 c = search needs
@@ -58,14 +58,14 @@ restate-spec =
     restate-lent-requires
     same-length
     returns
-    is-odd-requires
-    restate-any-requires
-    same-length-2
-    returns-2
-    judged-requires
+    soon-requires
     enum-known-h
     enum-told
+    restate-any-requires
+    enum-told-2
     restate-any-requires-2
+    returns-2
+    same-length-2
     returns-3
     same-length-3
     returns-4)
