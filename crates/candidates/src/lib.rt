@@ -1,4 +1,6 @@
 // What an entry narrows to: candidates, what they cover, how two join, and the row that holds one.
+#![tactic(auto)]
+
 pub mod beginnings;
 pub mod bounding;
 pub mod charging;

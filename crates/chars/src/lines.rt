@@ -3,7 +3,7 @@ ghost use Rattle.std.specs.Prelude.{◌≡◌, false, ◌+◌, ◌≤◌, length
 ghost use Rattle.chars.specs.Lines.{line_at, unbroken};
 
 // A line ends before `end`, and the next one would begin at `next`; or no line begins at the place.
-#[derive(Drop)]
+#[derive(Clone, Copy)]
 pub enum Line {
     Here { end: usize, next: usize },
     None,

@@ -6,7 +6,7 @@ ghost use Rattle.chars.specs.Steps.{stepped, DigitAt, Escaped, Leading, Past, Pl
 ghost use Rattle.chars.specs.Steps.{SameEight, Moves, Match};
 
 // So many characters; or a surrogate escape is no half of a pair; or the room is too short for the characters.
-#[derive(Drop)]
+#[derive(Clone, Copy)]
 pub enum Decoded {
     Count(usize),
     Lone,
@@ -14,7 +14,7 @@ pub enum Decoded {
 }
 
 // What some bytes begin with: a character, and how many bytes behind the first belong to it.
-#[derive(Drop)]
+#[derive(Clone, Copy)]
 enum Step {
     Char { c: u32, more: usize },
     Lone,

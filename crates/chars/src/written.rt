@@ -4,7 +4,7 @@ ghost use Rattle.chars.specs.Written.{hex_digit, coded, written, written_text, w
 ghost use Rattle.chars.specs.Putting.{put_at, Puts};
 
 // So many bytes were written; or the room is too short for them, and nothing was.
-#[derive(Drop)]
+#[derive(Clone, Copy)]
 pub enum Written {
     Count(usize),
     Short,

@@ -20,7 +20,7 @@ pub const TERSE: usize = 512;
 pub const BRIEF: usize = 1024;
 
 // A decision; or a refusal.
-#[derive(Drop)]
+#[derive(Clone, Copy)]
 pub enum Answer {
     Decided(Decision),
     Refused(Refusal),

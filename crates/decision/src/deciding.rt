@@ -16,7 +16,7 @@ use held::{limits, places, runs};
 use syntax::forms;
 
 // Denied or allowed by a statement, counted from 1; or denied by none and allowed by none.
-#[derive(Drop)]
+#[derive(Clone, Copy)]
 pub enum Decision {
     Denied(usize),
     Allowed(usize),
@@ -25,7 +25,7 @@ pub enum Decision {
 
 // The first part of a statement that does not hold: a row by its place in the statement, counted from 1, and why not, by
 // the numbers of row_result.
-#[derive(Drop)]
+#[derive(Clone, Copy)]
 pub enum Failing {
     Nothing,
     Action,

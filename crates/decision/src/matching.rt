@@ -7,7 +7,7 @@ use syntax::forms;
 
 // A symbol of the entry and a character of the text to be looked at, both by their places, the ends among them; the
 // place behind the last star passed, 0 where none was; and the place of the text from which what follows it is tried.
-#[derive(Drop)]
+#[derive(Clone, Copy)]
 pub struct Place {
     pub symbol: usize,
     pub character: usize,
@@ -16,7 +16,7 @@ pub struct Place {
 }
 
 // Where to look next; or the answer.
-#[derive(Drop)]
+#[derive(Clone, Copy)]
 pub enum Move {
     Go(Place),
     Stop(bool),

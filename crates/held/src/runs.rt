@@ -12,7 +12,7 @@ use crate::limits;
 use syntax::forms;
 
 // The place behind what was walked over, its entries, and whether one of its limits is passed.
-#[derive(Drop)]
+#[derive(Clone, Copy)]
 pub struct Seen {
     pub past: usize,
     pub entries: usize,

@@ -1,5 +1,7 @@
 // The program: policy.json of its folder, then records from standard input, one to a line, then the refined policy. It
 // reads, calls and prints; whatever is decided is decided in the library.
+#![tactic(auto)]
+
 mod printing;
 mod reading;
 
@@ -15,7 +17,7 @@ const POLICY: usize = 16385;
 const LINE: usize = 8193;
 
 // A piece of the input was fed; it was the last; or it could not be read.
-#[derive(Drop)]
+#[derive(Clone, Copy)]
 enum Step {
     Fed(Reached),
     Ended(Reached),

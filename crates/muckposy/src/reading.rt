@@ -5,7 +5,7 @@ use crate::printing;
 use chars::lines::Line;
 
 // The bytes of the line that is not ended yet, as far as they are kept, and its number.
-#[derive(Drop)]
+#[derive(Clone, Copy)]
 pub struct Reached {
     pub have: usize,
     pub number: u64,

@@ -4,7 +4,7 @@ ghost use Rattle.objects.specs.Leaving.{in_list, by_itself, in_value, in_policy}
 
 // A statement: held, and where it ends in the text; or given up at the member whose name is to stand at a place; or
 // given up as a whole.
-#[derive(Drop)]
+#[derive(Clone, Copy)]
 pub enum Stated {
     Past { past: usize, end: usize },
     Left(usize),
@@ -13,7 +13,7 @@ pub enum Stated {
 
 // What is owed inside the value of Statement: what follows a statement of a list; members from a name on, of a statement
 // that stands by itself; or of one in a list.
-#[derive(Drop)]
+#[derive(Clone, Copy)]
 pub enum Owed {
     Next,
     Alone,
@@ -21,7 +21,7 @@ pub enum Owed {
 }
 
 // Statements with their count; or given up at a place, or as a whole.
-#[derive(Drop)]
+#[derive(Clone, Copy)]
 pub enum Counted {
     Several {
         past: usize,
@@ -36,7 +36,7 @@ pub enum Counted {
 }
 
 // The same behind their number.
-#[derive(Drop)]
+#[derive(Clone, Copy)]
 pub enum Walked {
     Past { past: usize, end: usize },
     Left { at: usize, owed: Owed },
@@ -44,7 +44,7 @@ pub enum Walked {
 }
 
 // Where a policy was given up: before its text; behind a member that ends at a place; inside Statement.
-#[derive(Drop)]
+#[derive(Clone, Copy)]
 pub enum Place {
     Text,
     Behind(usize),
@@ -52,14 +52,14 @@ pub enum Place {
 }
 
 // A policy as an object: held, and where it ends in the text; or given up.
-#[derive(Drop)]
+#[derive(Clone, Copy)]
 pub enum Gone {
     Past { past: usize, end: usize },
     Left(Place),
 }
 
 // A policy: held up to a place of the run; or given up.
-#[derive(Drop)]
+#[derive(Clone, Copy)]
 pub enum Found {
     Held(usize),
     Left(Place),

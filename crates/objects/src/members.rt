@@ -6,7 +6,7 @@ use parts::holding::Ended;
 use parts::words::Typed;
 
 // A member whose name is a word of its layout: the word's turn, and where its value stands. Or another name.
-#[derive(Drop)]
+#[derive(Clone, Copy)]
 pub enum Which {
     Is { turn: usize, value: usize },
     Wrong,
@@ -14,7 +14,7 @@ pub enum Which {
 
 // A value that was held: from which place of the run up to which, or the number that tells it and 1; from where on the
 // next may lie, and where it ends in the text. Or it was given up.
-#[derive(Drop)]
+#[derive(Clone, Copy)]
 pub enum Part {
     At {
         from: usize,

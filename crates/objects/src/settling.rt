@@ -5,7 +5,7 @@ ghost use Rattle.parts.specs.Holding.{Extends};
 ghost use Rattle.objects.specs.Spans.{Spanned, Movable, InPlace, Copies, Settles};
 
 // So many parts lie in turn one behind the other, and end before this place.
-#[derive(Drop)]
+#[derive(Clone, Copy)]
 pub struct Lined {
     pub count: usize,
     pub past: usize,

@@ -19,7 +19,7 @@ use text::walk;
 use text::walk::Element;
 
 // The kinds of list.
-#[derive(Drop)]
+#[derive(Clone, Copy)]
 pub enum Entry {
     Action,
     Resource,

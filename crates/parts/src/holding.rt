@@ -13,21 +13,21 @@ use held::limits;
 use text::walk::Kind;
 
 // What was held ends before this place of the run; or what stands in the text is not as it has to be.
-#[derive(Drop)]
+#[derive(Clone, Copy)]
 pub enum Held {
     Past(usize),
     Wrong,
 }
 
 // What was held ends before `past` in the run, and what says it before `end` in the text; or it is not as it has to be.
-#[derive(Drop)]
+#[derive(Clone, Copy)]
 pub enum Ended {
     Past { past: usize, end: usize },
     Wrong,
 }
 
 // So many things were held, up to `past`, of a list that ends before `end` in the text; or one is not as it has to be.
-#[derive(Drop)]
+#[derive(Clone, Copy)]
 pub enum Listed {
     Several {
         past: usize,

@@ -8,7 +8,7 @@ use text::walk;
 use text::walk::Member;
 
 // The four kinds of object with names of their own.
-#[derive(Drop)]
+#[derive(Clone, Copy)]
 pub enum Layout {
     Policy,
     Statement,

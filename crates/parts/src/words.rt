@@ -11,14 +11,14 @@ ghost use Rattle.held.specs.Held.{operator_number};
 
 use crate::holding;
 
-#[derive(Drop)]
+#[derive(Clone, Copy)]
 pub enum Effect {
     Allow,
     Deny,
     Wrong,
 }
 
-#[derive(Drop)]
+#[derive(Clone, Copy)]
 pub enum Operator {
     StringEquals,
     StringLike,
@@ -26,14 +26,14 @@ pub enum Operator {
 }
 
 // An operator; or a name that is none.
-#[derive(Drop)]
+#[derive(Clone, Copy)]
 pub enum Word {
     Is(Operator),
     Wrong,
 }
 
 // The type that a context entry names, 1 a text, 2 a number, by a string that ends before `end`; or it names none.
-#[derive(Drop)]
+#[derive(Clone, Copy)]
 pub enum Typed {
     Is { kind: u32, end: usize },
     Wrong,

@@ -1,4 +1,6 @@
 // Policies and records: layouts and refusals, read from bytes into held runs. Knows nothing of logs and rooms.
+#![tactic(auto)]
+
 pub mod contexts;
 pub mod onward;
 pub mod reading;

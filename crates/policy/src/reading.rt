@@ -28,7 +28,7 @@ pub const MIDDLE: usize = 4096;
 pub const LONG: usize = 6144;
 
 // What was read lies at the run's beginning, up to this place; or a refusal.
-#[derive(Drop)]
+#[derive(Clone, Copy)]
 pub enum Read {
     Held(usize),
     Refused(Refusal),

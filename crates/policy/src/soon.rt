@@ -14,7 +14,7 @@ use text::{scan, walk, white};
 const NEAR: usize = 64;
 
 // A refusal; or the text looks as a policy does; or it does not, and is whole. In the last two cases it has to be read.
-#[derive(Drop)]
+#[derive(Clone, Copy)]
 pub enum Early {
     Refused(Refusal),
     Usual,

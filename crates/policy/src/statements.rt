@@ -25,7 +25,7 @@ use text::walk::{Element, Member};
 
 // A policy's members so far: where Version's value stands, and before which place of the run ends what was held of
 // Statement; 0 for one that has not come. The last of them ends before `end` in the text. Or there is no policy.
-#[derive(Drop)]
+#[derive(Clone, Copy)]
 pub enum Partly {
     So {
         version: usize,

@@ -1,4 +1,6 @@
 // The readers of policies and records as numbers, for tests from Rust. No part of the product.
+#![tactic(auto)]
+
 ghost use Rattle.std.specs.Prelude.{◌≡◌};
 ghost use Rattle.held.specs.Held.{held, held_request};
 ghost use Rattle.policy.specs.Reading.{policy_rules, record_rules};
@@ -9,7 +11,7 @@ use policy::{reading, refusals};
 
 // A refusal's number and its place; or 0, 0, and how many numbers of the run hold what was read.
 #[repr(C)]
-#[derive(Drop)]
+#[derive(Clone, Copy)]
 pub struct Told {
     pub refusal: u64,
     pub place: usize,

@@ -14,7 +14,7 @@ use policy::refusals::Refusal;
 // A refusal's number and its place; or 0, 0, and what the operation answers: a decision, 1 allowed, 2 explicitly denied,
 // 3 implicitly denied, with the statement that decides, counted from 1 and 0 where none does; or 0 and the bytes written.
 #[repr(C)]
-#[derive(Drop)]
+#[derive(Clone, Copy)]
 pub struct Reply {
     pub number: u64,
     pub place: usize,

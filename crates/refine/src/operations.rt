@@ -26,7 +26,7 @@ use rooms::{listing, walking};
 const ROOM: usize = 16384;
 
 // Done; or a refusal, and nothing was.
-#[derive(Drop)]
+#[derive(Clone, Copy)]
 pub enum Answer {
     Done,
     Refused(Refusal),

@@ -23,7 +23,7 @@ use syntax::forms;
 use writing::{entries, sink, statements};
 
 // The place behind what is written, and how many things stand there.
-#[derive(Drop)]
+#[derive(Clone, Copy)]
 pub struct Reached {
     pub next: usize,
     pub count: usize,

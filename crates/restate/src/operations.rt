@@ -21,7 +21,7 @@ use writing::policies;
 const FEW: usize = 256;
 
 // So many bytes were written; or a refusal, and nothing was.
-#[derive(Drop)]
+#[derive(Clone, Copy)]
 pub enum Answer {
     Written(usize),
     Refused(Refusal),

@@ -20,14 +20,14 @@ use decision::deciding::Decision;
 use held::{limits, places};
 
 // The notes end before `next`, and what was listed ends before `past` in the held run.
-#[derive(Drop)]
+#[derive(Clone, Copy)]
 pub struct Noted {
     pub next: usize,
     pub past: usize,
 }
 
 // A decision, and before which place the notes end if a request is to be charged.
-#[derive(Drop)]
+#[derive(Clone, Copy)]
 pub struct Judged {
     pub decision: Decision,
     pub notes: usize,

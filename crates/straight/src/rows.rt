@@ -18,7 +18,7 @@ use syntax::forms;
 pub const MOST: usize = 16384;
 
 // A member whose name is an operator, with its value's place; or another name.
-#[derive(Drop)]
+#[derive(Clone, Copy)]
 pub enum Operated {
     By { operator: Operator, value: usize },
     Wrong,

@@ -8,7 +8,7 @@ ghost use Rattle.syntax.specs.Told.{told_number, with_digit};
 const GREATEST: u64 = 9007199254740991;
 
 // A number; or the characters are none.
-#[derive(Drop)]
+#[derive(Clone, Copy)]
 pub enum Number {
     Is(u64),
     Wrong,

@@ -6,14 +6,14 @@ ghost use Rattle.syntax.specs.Told.{is_read, Opened, NoDollar, Says, converted};
 use crate::forms;
 
 // So many symbols; or an escape is none of the three.
-#[derive(Drop)]
+#[derive(Clone, Copy)]
 pub enum Converted {
     Count(usize),
     Wrong,
 }
 
 // What stands at a place: a symbol and the place behind what says it; or an escape that is none of the three.
-#[derive(Drop)]
+#[derive(Clone, Copy)]
 enum Step {
     Symbol { c: u32, past: usize },
     Wrong,

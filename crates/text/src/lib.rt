@@ -1,4 +1,6 @@
 // Text: bytes to a JSON text and its contents. Knows no policy, no record and no refusal number.
+#![tactic(auto)]
+
 pub mod ends;
 pub mod numbers;
 pub mod onward;

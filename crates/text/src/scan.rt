@@ -11,21 +11,21 @@ use crate::{numbers, quick, quoted, white};
 pub const LEVELS: usize = 16;
 
 // What holds inner values.
-#[derive(Drop)]
+#[derive(Clone, Copy)]
 pub enum Shape {
     List,
     Object,
 }
 
 // How a value begins: it holds no inner value, or its first inner value stands at a place.
-#[derive(Drop)]
+#[derive(Clone, Copy)]
 pub enum Begun {
     Ends(Part),
     Inner { at: usize, shape: Shape },
 }
 
 // What follows an inner value: another, which stands at this place; or the end, past this place.
-#[derive(Drop)]
+#[derive(Clone, Copy)]
 pub enum Next {
     Inner(usize),
     Closed(usize),

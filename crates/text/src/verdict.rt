@@ -1,7 +1,7 @@
 // How a text, and a part of one, is judged.
 
 // What a text is.
-#[derive(Drop)]
+#[derive(Clone, Copy)]
 pub enum Verdict {
     // One JSON text.
     Whole,
@@ -12,7 +12,7 @@ pub enum Verdict {
 }
 
 // How a part of a text is read: up to this place, or with this verdict on the whole text.
-#[derive(Drop)]
+#[derive(Clone, Copy)]
 pub enum Part {
     Past(usize),
     Fails(Verdict),

@@ -13,7 +13,7 @@ use crate::verdict::Part;
 use crate::{ends, scan};
 
 // What kind of value stands at a place.
-#[derive(Drop)]
+#[derive(Clone, Copy)]
 pub enum Kind {
     Null,
     True,
@@ -25,21 +25,21 @@ pub enum Kind {
 }
 
 // What stands between the two quotes of a string: from one place up to another.
-#[derive(Drop)]
+#[derive(Clone, Copy)]
 pub struct Span {
     pub from: usize,
     pub to: usize,
 }
 
 // An element of a list, or the place past the list.
-#[derive(Drop)]
+#[derive(Clone, Copy)]
 pub enum Element {
     At(usize),
     Past(usize),
 }
 
 // A member of an object: its name stands from `name` up to `end`, its value at `value`; or the place past the object.
-#[derive(Drop)]
+#[derive(Clone, Copy)]
 pub enum Member {
     Named {
         name: usize,

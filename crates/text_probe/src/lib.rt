@@ -1,4 +1,6 @@
 // The text layer as numbers, for tests and measurements from Rust. No part of the product.
+#![tactic(auto)]
+
 ghost use Rattle.std.specs.Prelude.{◌≡◌};
 ghost use Rattle.text_probe.specs.Numbers.{scanning, decoding, writing};
 
@@ -10,7 +12,7 @@ use text::verdict::Verdict;
 
 // Which answer it is, and the number that it holds, or 0 where it holds none.
 #[repr(C)]
-#[derive(Drop)]
+#[derive(Clone, Copy)]
 pub struct Answer {
     pub which: u64,
     pub number: usize,

@@ -1,6 +1,8 @@
 // Trials of the text layer: each line of standard input is a letter and bytes in hexadecimal, and gets a line of answer.
 //   j BYTES   the scan's verdict on the bytes as a JSON text
 //   s BYTES   the characters of the bytes as what stands between two quotes, and behind a bar their written form
+#![tactic(auto)]
+
 ghost use Rattle.std.specs.Prelude.{◌<◌, ◌≤◌};
 
 use chars::lines::Line;

@@ -1,4 +1,6 @@
 // The written form of a held policy. Knows nothing of logs and rooms.
+#![tactic(auto)]
+
 pub mod entries;
 pub mod plain;
 pub mod policies;

@@ -6,7 +6,7 @@ ghost use Rattle.writing.specs.Showing.{Adds};
 ghost use Rattle.writing.specs.Plain.{Plain, AllPlain, PlainPut, PlainTo};
 
 // The place behind what was put, and that of the first character that was not.
-#[derive(Drop)]
+#[derive(Clone, Copy)]
 pub struct Behind {
     pub next: usize,
     pub i: usize,

@@ -21,7 +21,7 @@ use Rattle.candidates.specs.Candidates.{Alike}
 use Rattle.candidates.specs.Rows.{row_numbers}
 use Rattle.rooms.specs.Rooms.{slots, charges, fed, met}
 use Rattle.rooms.specs.Walking.{Right}
-use Rattle.refine.specs.Operations.{room_numbers, is_room, holds_for, Feeds, Joins, Finishes}
+use Rattle.refine.specs.Operations.{done, room_numbers, is_room, holds_for, Feeds, Joins, Finishes}
 use Rattle.refine.specs.Operations as O
 use Rattle.refine.proofs.Laws.Held.{sound_read, rows_enough, room_size, right_charges}
 use Rattle.refine.proofs.Laws.Operations.{finishes_unique}
@@ -248,9 +248,12 @@ module _ {policy : Bytes} {f : Refusal} (refuses : Says policy_rules policy (ref
   walk_stays walked = refl
   walk_stays (L.fed x rest) = walk_stays rest ∙ feed_stays x
 
+  joined_never : {room other after : List ℕ} → Joins policy room other (known done) after → after ≡ empty_room
+  joined_never (O.joins e g a n m) = never_both a refuses
+
   comes_empty : {log : List Bytes} {room : List ℕ} → Comes policy log room → room ≡ empty_room
   comes_empty (L.walk w) = walk_stays w
-  comes_empty (L.join x y (O.joins e g a n m)) = never_both a refuses
+  comes_empty (L.join x y j) = joined_never j
 
 -- ---- the same room, and the same result
 

@@ -54,7 +54,7 @@ module _ {A : Type 0} (k : Rules A) where
   outcome_short s v h m =
       rw (le-ltb k.most (length s) h) (ap (by_verdict s) (sym (verdict_unique s v m)))
 
-  pub says_is : {x : Outcome A} (s : List ℕ) → Says k s x → x ≡ outcome s
+  pub says_is : (s : List ℕ) {x : Outcome A} → Says k s x → x ≡ outcome s
   unfolding outcome by_verdict
   says_is s (long h) = rw (lt-ltb k.most (length s) h) refl
   says_is s (broken {p} h b) = sym (outcome_short s (Breaks p) h b)

@@ -54,7 +54,7 @@ comes_short t q e = by (request_of t) refl e
     by wrong r c = not_known c
     by (read z) r c = let i : z ≡ q = cc in request_short t q (r ∙ ap read i)
 
-said_short : {x : Outcome Request} {s : List ℕ} → Says record_rules s x → (q : Request) → x ≡ known q → ShortRequest q
+said_short : {s : List ℕ} {x : Outcome Request} → Says record_rules s x → (q : Request) → x ≡ known q → ShortRequest q
 said_short (long h) q e = not_known e
 said_short (broken h b) q e = not_known e
 said_short (deep h b) q e = not_known e

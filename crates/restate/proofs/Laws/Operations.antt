@@ -126,7 +126,7 @@ record Known (s : List ℕ) (p : Policy) : Type 0 where
   says : JsonText s tree
   comes : policy_comes (policy_of tree) ≡ known p
 
-said_known : {x : Outcome Policy} {s : List ℕ} → Says policy_rules s x → (p : Policy) → x ≡ known p → Known s p
+said_known : {s : List ℕ} {x : Outcome Policy} → Says policy_rules s x → (p : Policy) → x ≡ known p → Known s p
 said_known (long h) p e = never e
 said_known (broken h b) p e = never e
 said_known (deep h b) p e = never e

@@ -29,7 +29,8 @@ bytes_left {s} {i} [] v = by (dec_lt i (length s))
     by : Dec (i < length s) → i + 0 ≡ length s
     by (yes h) = absurd (not_whole (Breaks i) tt (sym (past_end s i h) ∙ v.lives))
     by (no h) = omega (arith, v.high)
-bytes_left (b ∷ bs) v = let z = bytes_left bs (alive_byte b (map byte bs) v).next in omega arith
+bytes_left {s} {i} (b ∷ bs) v =
+    let z = bytes_left {s = s} {i = i + 1} bs (alive_byte b (map byte bs) v).next in omega arith
 
 pub space_reads : {s : List ℕ} {i j : ℕ} → Done s (ws ∷ []) i j → Space s i j
 space_reads {s} {i} {j} d =

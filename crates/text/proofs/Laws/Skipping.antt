@@ -82,7 +82,8 @@ module _ {s : List ℕ} where
   word : {n i e k : ℕ} (w : List ℕ) → Plains w → Spelt s w i e → Closes s (suc n) e k → Closes s (suc n) i k
   word {n} {i} {e} {k} [] empty p c =
       let z = spelt_length p in subst (λ (l : ℕ). Closes s (suc n) l k) (omega arith) c
-  word (b ∷ w) (then h g) p c = plain (spelt_first p) h (word w g (spelt_rest p) c)
+  word {n} {i} {e} {k} (b ∷ w) (then h g) p c =
+      plain (spelt_first p) h (word {n = n} {i = i + 1} {e = e} {k = k} w g (spelt_rest p) c)
 
   -- ---- pieces
 

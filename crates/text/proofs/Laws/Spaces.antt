@@ -24,10 +24,13 @@ space_done (no_space h) p m = passes_at ws [] p m
 space_done (white q v r) p m = seq (takes_at ws [] q (ws ∷ []) (white_moves v)) (space_done r p m)
 
 -- all of it, to the end of the text
-pub space_end : {s : List ℕ} {i : ℕ} → Space s i (length s) → Done s (ws ∷ []) i (length s)
+space_until : {s : List ℕ} {i e : ℕ} → Space s i e → e ≡ length s → Done s (ws ∷ []) i e
 unfolding optional
-space_end (no_space h) = skips ws [] refl refl
-space_end (white q v r) = seq (takes_at ws [] q (ws ∷ []) (white_moves v)) (space_end r)
+space_until (no_space h) q = skips ws [] q refl
+space_until (white p v r) q = seq (takes_at ws [] p (ws ∷ []) (white_moves v)) (space_until r q)
+
+pub space_end : {s : List ℕ} {i : ℕ} → Space s i (length s) → Done s (ws ∷ []) i (length s)
+space_end p = space_until p refl
 
 pub space_low : {s : List ℕ} {i e : ℕ} → Space s i e → i ≤ e
 space_low (no_space h) = omega arith

@@ -79,6 +79,18 @@ module _ {k l : List Item} {w : List ℕ} (g : Kin k l w) (at : ℕ) where
     fate_on (go i) (go j) e f (both_go {w = v} h) r = fate_cons e f (r i j v h)
     fate_on deep (go j) e f (one_deep {w = v} h) r =
         sinks (stops_here Deep (λ ds. rw e)) (lives_cons f (record { rest = v; finish = h }))
+    fate_on pass bad e f x8 r = elim x8 [ ]
+    fate_on pass deep e f x9 r = elim x9 [ ]
+    fate_on pass (go j) e f x10 r = elim x10 [ ]
+    fate_on bad pass e f x6 r = elim x6 [ ]
+    fate_on bad deep e f x7 r = elim x7 [ ]
+    fate_on bad (go j) e f x8 r = elim x8 [ ]
+    fate_on deep pass e f x7 r = elim x7 [ ]
+    fate_on deep bad e f x8 r = elim x8 [ ]
+    fate_on deep deep e f x9 r = elim x9 [ ]
+    fate_on (go i) pass e f x8 r = elim x8 [ ]
+    fate_on (go i) bad e f x9 r = elim x9 [ ]
+    fate_on (go i) deep e f x10 r = elim x10 [ ]
 
 pub fate : {k l : List Item} {w : List ℕ} (s : List ℕ) → Kin k l w → (at : ℕ) → Fate k l s at (run k s at)
 unfolding run

@@ -1,0 +1,12 @@
+-- Each turn stores one character; the star is stored behind them.
+use Prim.Native.Nat.{◌-◌}
+use native.Mathlib.Omega.{arith}
+use lib.ListN.{length}
+use Rattle.candidates.proofs.Laws.Forming.{Copying, copying_start, copying_next, copying_end, starts_as}
+use Rattle.candidates.proofs.legality.put_starred.Given as goal
+
+abbrev pub invariant-loop-i : goal.invariant-loop-i
+invariant-loop-i l = Copying l.q l.initial.ys l.ys l.i
+
+abbrev pub decreases-loop-i : goal.decreases-loop-i
+decreases-loop-i l = length l.q - l.i

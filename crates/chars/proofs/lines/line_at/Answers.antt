@@ -1,0 +1,12 @@
+-- The line ends before the first LF or with the text.
+use Rattle.chars.proofs.Laws.Lines.Found.{line_over, line_lf, line_last}
+use Rattle.chars.proofs.lines.line_at.Goals as goal
+
+pub returns-then-s-at : goal.returns-then-s-at
+returns-then-s-at c = line_over _ _ c.if-s-at.true
+
+pub returns-then-e-s : goal.returns-then-e-s
+returns-then-e-s c = line_lf _ _ _ c.if-s-at.false c.line_end-e.ensures c.if-e-s.true
+
+pub returns : goal.returns
+returns c = line_last _ _ _ c.if-s-at.false c.line_end-e.ensures c.if-e-s.false

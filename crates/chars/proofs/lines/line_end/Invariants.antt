@@ -1,0 +1,16 @@
+-- No LF stood at any place passed.
+use mathlib.Core.Path.{◌≡◌, sym, ◌∙◌}
+use Prim.Native.Nat.{◌≤◌, ◌+◌, ◌-◌}
+use native.Mathlib.Omega.{arith}
+use lib.ListN.{length, drop}
+use Rattle.chars.specs.Lines.{unbroken}
+use Rattle.chars.proofs.Laws.Lines.Found.{unbroken_lf, unbroken_more, unbroken_end}
+use Rattle.chars.proofs.lines.line_end.Given as goal
+
+abbrev pub invariant-loop-i : goal.invariant-loop-i
+invariant-loop-i l =
+    (l.i ≤ length l.s) × (l.i + unbroken (drop l.i l.s) ≡ l.at + unbroken (drop l.at l.s))
+
+abbrev pub decreases-loop-i : goal.decreases-loop-i
+decreases-loop-i l =
+    length l.s - l.i

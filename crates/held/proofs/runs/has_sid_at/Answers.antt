@@ -1,0 +1,40 @@
+-- None of the statements passed has the Sid; whichever statements lie at the places are the ones compared.
+use mathlib.Core.Path.{sym, ◌∙◌}
+use mathlib.Core.List.{List}
+use Prim.Native.Nat.{ℕ, ◌-◌}
+use native.Mathlib.Omega.{arith}
+use Rattle.syntax.specs.Policy.{Statement}
+use Rattle.syntax.specs.PolicyLayout.{same_sid}
+use Rattle.held.specs.Held.{held_statement}
+use Rattle.held.specs.Lying.{Lies, Placed}
+use Rattle.held.proofs.Laws.Placed.{Left, left_start, left_lying, left_found, left_next, left_end}
+use Rattle.held.proofs.runs.has_sid_at.Goals as goal
+
+pub loop-i-init : goal.loop-i-init
+loop-i-init c = λ e xs x g m. left_start g
+
+pub offset_bounds-places-i : goal.offset_bounds-places-i
+offset_bounds-places-i c = omega (arith, c.loop-i-test.true, c.requires.0.placed.few)
+
+pub bounds-places-i : goal.bounds-places-i
+bounds-places-i c = omega (arith, c.loop-i-test.true, c.requires.0.placed.few)
+
+pub same_sid_at-requires : goal.same_sid_at-requires
+same_sid_at-requires c =
+    let w = c.loop-i.invariant c.requires.0.end c.requires.0.things c.requires.1.thing c.requires.0.placed c.requires.1.lies in
+    (c.requires.1, left_lying w c.loop-i-test.true)
+
+pub returns-then-same_sid_at : goal.returns-then-same_sid_at
+returns-then-same_sid_at c =
+    λ e xs x g m.
+    sym (left_found (c.loop-i.invariant e xs x g m) c.loop-i-test.true
+    (λ y z. sym (c.same_sid_at.ensures x y m z) ∙ c.if-same_sid_at.true))
+
+pub loop-i-preserved : goal.loop-i-preserved
+loop-i-preserved c =
+    λ e xs x g m.
+    left_next (c.loop-i.invariant e xs x g m) c.loop-i-test.true
+    (λ y z. sym (c.same_sid_at.ensures x y m z) ∙ c.if-same_sid_at.false)
+
+pub returns : goal.returns
+returns c = λ e xs x g m. sym (left_end (c.loop-i.invariant e xs x g m) c.loop-i-test.false)

@@ -1,0 +1,13 @@
+-- Each turn passes one value; whichever values lie at the place are the ones walked over.
+use mathlib.Core.Path.{refl}
+use Prim.Native.Nat.{◌-◌}
+use Rattle.held.specs.Held.{held_value, long_value}
+use Rattle.held.proofs.Laws.Runs.{or_either}
+use Rattle.held.proofs.Laws.RunsWalk.{Walks, walk_start, walk_lying, walk_next, walk_end}
+use Rattle.held.proofs.runs.values.Given as goal
+
+abbrev pub invariant-loop-i : goal.invariant-loop-i
+invariant-loop-i l = Walks held_value long_value (λ x. 0) l.run l.at l.n l.i l.p 0 l.over
+
+abbrev pub decreases-loop-i : goal.decreases-loop-i
+decreases-loop-i l = l.n - l.i

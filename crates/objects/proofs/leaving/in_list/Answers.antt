@@ -1,0 +1,16 @@
+-- Only a place is told to the list.
+use mathlib.Core.Path.{◌≡◌, refl}
+use Rattle.objects.specs.Leaving.{in_list}
+use Rattle.objects.specs.declared.leaving.Stated.{Stated}
+use Rattle.objects.specs.declared.leaving.Stated.TheVariants as T
+use Rattle.objects.specs.declared.leaving.Counted.TheVariants as C
+use Prim.Native.Nat.{ℕ}
+use Rattle.objects.proofs.leaving.in_list.Goals as goal
+
+other : (h : Stated) → ((i : ℕ) → h ≡ T.Left i → ⊥) → C.Wrong ≡ in_list h
+other (T.Past p e) k = refl
+other (T.Left i) k = absurd (k i refl)
+other T.Wrong k = refl
+
+pub returns-in_default : goal.returns-in_default
+returns-in_default c = other c.args.h c.in_default.not-Left

@@ -1,0 +1,76 @@
+-- The words are tried in their turn.
+use mathlib.Core.Path.{sym, ◌∙◌}
+use mathlib.Core.List.{[], ◌∷◌}
+use Rattle.syntax.specs.Words.{sid_word, effect_word, action_word, resource_word, condition_word}
+use Rattle.parts.proofs.Laws.Slots.{which_here, which_later, which_none}
+use Rattle.parts.proofs.members.of_statement.Goals as goal
+
+pub returns-then-same : goal.returns-then-same
+returns-then-same c =
+    let y = sym c.same.ensures ∙ c.if-same.true in
+    (which_here _ sid_word (effect_word ∷ action_word ∷ resource_word ∷ condition_word ∷ []) y)
+
+pub returns-then-same-2 : goal.returns-then-same-2
+returns-then-same-2 c =
+    let n1 = sym c.same.ensures ∙ c.if-same.false in
+    let y = sym c.same-2.ensures ∙ c.if-same-2.true in
+    (which_later _ sid_word (effect_word ∷ action_word ∷ resource_word ∷ condition_word ∷ []) 1 n1
+    (which_here _ effect_word (action_word ∷ resource_word ∷ condition_word ∷ []) y))
+
+pub returns-then-same-3 : goal.returns-then-same-3
+returns-then-same-3 c =
+    let n1 = sym c.same.ensures
+    ∙ c.if-same.false in
+    let n2 = sym c.same-2.ensures ∙ c.if-same-2.false in
+    let y = sym c.same-3.ensures ∙ c.if-same-3.true in
+    (which_later _ sid_word (effect_word ∷ action_word ∷ resource_word ∷ condition_word ∷ []) 2 n1
+    (which_later _ effect_word (action_word ∷ resource_word ∷ condition_word ∷ []) 1 n2
+    (which_here _ action_word (resource_word ∷ condition_word ∷ []) y)))
+
+pub returns-then-same-4 : goal.returns-then-same-4
+returns-then-same-4 c =
+    let n1 = sym c.same.ensures
+    ∙ c.if-same.false in
+    let n2 = sym c.same-2.ensures
+    ∙ c.if-same-2.false in
+    let n3 = sym c.same-3.ensures ∙ c.if-same-3.false in
+    let y = sym c.same-4.ensures ∙ c.if-same-4.true in
+    (which_later _ sid_word (effect_word ∷ action_word ∷ resource_word ∷ condition_word ∷ []) 3 n1
+    (which_later _ effect_word (action_word ∷ resource_word ∷ condition_word ∷ []) 2 n2
+    (which_later _ action_word (resource_word ∷ condition_word ∷ []) 1 n3
+    (which_here _ resource_word (condition_word ∷ []) y))))
+
+pub returns-then-same-5 : goal.returns-then-same-5
+returns-then-same-5 c =
+    let n1 = sym c.same.ensures
+    ∙ c.if-same.false
+    in
+    let n2 = sym c.same-2.ensures
+    ∙ c.if-same-2.false in
+    let n3 = sym c.same-3.ensures
+    ∙ c.if-same-3.false in
+    let n4 = sym c.same-4.ensures ∙ c.if-same-4.false in
+    let y = sym c.same-5.ensures ∙ c.if-same-5.true in
+    (which_later _ sid_word (effect_word ∷ action_word ∷ resource_word ∷ condition_word ∷ []) 4 n1
+    (which_later _ effect_word (action_word ∷ resource_word ∷ condition_word ∷ []) 3 n2
+    (which_later _ action_word (resource_word ∷ condition_word ∷ []) 2 n3
+    (which_later _ resource_word (condition_word ∷ []) 1 n4
+    (which_here _ condition_word ([]) y)))))
+
+pub returns : goal.returns
+returns c =
+    let n1 = sym c.same.ensures
+    ∙ c.if-same.false
+    in
+    let n2 = sym c.same-2.ensures
+    ∙ c.if-same-2.false in
+    let n3 = sym c.same-3.ensures
+    ∙ c.if-same-3.false in
+    let n4 = sym c.same-4.ensures ∙ c.if-same-4.false in
+    let n5 = sym c.same-5.ensures ∙ c.if-same-5.false in
+    (which_later _ sid_word (effect_word ∷ action_word ∷ resource_word ∷ condition_word ∷ []) 0 n1
+    (which_later _ effect_word (action_word ∷ resource_word ∷ condition_word ∷ []) 0 n2
+    (which_later _ action_word (resource_word ∷ condition_word ∷ []) 0 n3
+    (which_later _ resource_word (condition_word ∷ []) 0 n4
+    (which_later _ condition_word ([]) 0 n5
+    (which_none _))))))

@@ -1,0 +1,35 @@
+-- An absent member is laid as no entries; one that is there is held where it stands.
+use mathlib.Core.Path.{ap}
+use mathlib.Core.List.{[]}
+use native.Mathlib.Omega.{arith}
+use Rattle.syntax.specs.Members.{optional}
+use Rattle.syntax.specs.RecordLayout.{contexts_of}
+use Rattle.held.specs.Held.{held_context, held_each, held_list}
+use Rattle.parts.proofs.Laws.Requests.Members.{placed_absent, placed_found, slot_holdable, holds_past_of}
+use Rattle.parts.proofs.Laws.Requests.Laying.{extends_one}
+use Rattle.policy.proofs.contexts.hold_contexts.Goals as goal
+
+pub bounds-run-at : goal.bounds-run-at
+bounds-run-at c = omega (arith, c.requires.roomy.room)
+
+pub overflow_add-result : goal.overflow_add-result
+overflow_add-result c = omega (arith, c.requires.roomy.room, c.requires.roomy.bounded)
+
+pub returns-then-v-eq0 : goal.returns-then-v-eq0
+unfolding held_each
+returns-then-v-eq0 c =
+    λ x p. record {
+      thing = [];
+      said = ap (optional [] contexts_of) (placed_absent p c.if-v-eq0.true);
+      extends = extends_one c.args.run.now c.args.at 0 (omega (arith, c.requires.roomy.room));
+    }
+
+pub hold_listed-requires : goal.hold_listed-requires
+hold_listed-requires c = slot_holdable c.requires c.if-v-eq0.false
+
+pub returns : goal.returns
+returns c =
+    λ x p. let f = placed_found p c.if-v-eq0.false in
+    holds_past_of (held_list held_context) c.args.run.now c.hold_listed.new.run c.args.at
+    (contexts_of f.what) (optional [] contexts_of x) f.stop c.hold_listed.result
+    (c.hold_listed.ensures f.what f.stop f.at) c.past_of.ensures (ap (optional [] contexts_of) f.is)

@@ -1,0 +1,10 @@
+-- Each step goes one byte back.
+use Prim.Native.Nat.{◌≤◌}
+use lib.ListN.{length}
+use Rattle.policy.proofs.soon.trimmed.Given as goal
+
+abbrev pub invariant-loop-n : goal.invariant-loop-n
+invariant-loop-n l = l.n ≤ length l.s
+
+abbrev pub decreases-loop-n : goal.decreases-loop-n
+decreases-loop-n l = l.n

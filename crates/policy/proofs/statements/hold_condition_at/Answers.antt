@@ -1,0 +1,24 @@
+-- An absent condition is no rows; one that is there is held where it stands.
+use mathlib.Core.List.{[]}
+use native.Mathlib.Omega.{arith}
+use Rattle.syntax.specs.PolicyLayout.{condition_of}
+use Rattle.held.specs.Held.{held_list, held_row}
+use Rattle.policy.proofs.Laws.StatementsParts.{absent_laid, there_holdable, there_laid, there_left, no_rows}
+use Rattle.policy.proofs.statements.hold_condition_at.Goals as goal
+
+pub returns-then-v-eq0 : goal.returns-then-v-eq0
+returns-then-v-eq0 c =
+    absent_laid (held_list held_row) [] condition_of no_rows (omega (arith, c.requires.roomy.room)) c.if-v-eq0.true
+
+pub hold_condition-h-requires : goal.hold_condition-h-requires
+hold_condition-h-requires c = there_holdable c.requires c.if-v-eq0.false
+
+pub returns-in_default : goal.returns-in_default
+returns-in_default c =
+    there_left (held_list held_row) [] condition_of c.args.run.now _ c.args.at _ c.if-v-eq0.false
+    c.hold_condition-h.ensures c.in_default.is
+
+pub returns : goal.returns
+returns c =
+    there_laid (held_list held_row) [] condition_of c.args.run.now _ c.args.at _ c.if-v-eq0.false
+    c.hold_condition-h.ensures c.in-Past.is

@@ -1,0 +1,63 @@
+-- By the word's turn a member is unknown, the Version or the Statement; each of these comes once and is tested or held.
+use mathlib.Core.Path.{refl, sym, ◌∙◌}
+use borrow.Author.Tests.{not-true, not-false}
+use Rattle.held.specs.Held.{held}
+use Rattle.parts.proofs.Laws.Formed.{ends_past, ends_wrong}
+use Rattle.policy.specs.Statements.{a_version, a_statement, unknown, version_again, version_wrong}
+use Rattle.policy.specs.Statements.{statement_again, statement_wrong}
+use Rattle.policy.proofs.statements.hold_member.Goals as goal
+
+pub returns-then-k-eq0 : goal.returns-then-k-eq0
+returns-then-k-eq0 c = λ t e p. (refl, unknown c.if-k-eq0.true)
+
+pub returns-then-version-ne0 : goal.returns-then-version-ne0
+returns-then-version-ne0 c = λ t e p. (refl, version_again c.if-k-eq1.true c.if-version-ne0.true)
+
+pub is_edition-requires : goal.is_edition-requires
+is_edition-requires c =
+    record { what = c.requires.what; stop = c.requires.stop; is = c.requires.is }
+
+pub returns-then-not-is_edition : goal.returns-then-not-is_edition
+returns-then-not-is_edition c =
+    λ t e p. (
+      refl,
+      version_wrong c.if-k-eq1.true c.if-version-ne0.false
+          (sym (c.is_edition.ensures t e p) ∙ c.if-not-is_edition.true),
+    )
+
+pub past_value-requires : goal.past_value-requires
+past_value-requires c =
+    record { what = c.requires.what; stop = c.requires.stop; is = c.requires.is }
+
+pub returns-then-k-eq1 : goal.returns-then-k-eq1
+returns-then-k-eq1 c =
+    λ t e p. (
+      a_version c.if-k-eq1.true c.if-version-ne0.false
+          (sym (c.is_edition.ensures t e p) ∙ c.if-not-is_edition.false) refl refl refl,
+      c.past_value.ensures t e p,
+    )
+
+pub returns-then-past-ne0 : goal.returns-then-past-ne0
+returns-then-past-ne0 c =
+    λ t e p. (refl, statement_again c.if-k-eq0.false c.if-k-eq1.false c.if-past-ne0.true)
+
+pub hold_several-h-requires : goal.hold_several-h-requires
+hold_several-h-requires c = c.requires
+
+pub returns-in_default : goal.returns-in_default
+returns-in_default c =
+    λ t e p.
+    let l = ends_wrong held c.args.run.now _ _ _ _ (c.hold_several-h.ensures t e p)
+    c.in_default.is in (
+      l.size,
+      statement_wrong c.if-k-eq0.false c.if-k-eq1.false c.if-past-ne0.false l.said,
+    )
+
+pub returns : goal.returns
+returns c =
+    λ t e p.
+    let d = ends_past held c.args.run.now _ _ _ _ (c.hold_several-h.ensures t e p)
+    c.in-Past.is in (
+      a_statement c.if-k-eq0.false c.if-k-eq1.false c.if-past-ne0.false refl d.0,
+      d.1,
+    )

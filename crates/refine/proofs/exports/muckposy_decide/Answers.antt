@@ -1,0 +1,6 @@
+-- The numbers are those of what the operation answers.
+use Rattle.refine.proofs.Laws.Exports.{replying}
+use Rattle.refine.proofs.exports.muckposy_decide.Goals as goal
+
+pub returns : goal.returns
+returns c = replying _ _ c.decide.ensures c.of_decided.ensures

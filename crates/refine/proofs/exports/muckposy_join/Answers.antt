@@ -1,0 +1,7 @@
+-- The numbers are those of what the operation answers.
+use Rattle.refine.proofs.Laws.Exports.{replying}
+use Rattle.refine.proofs.exports.muckposy_join.Goals as goal
+
+pub returns : goal.returns
+returns c =
+    replying _ _ c.join.ensures c.of_done.ensures

@@ -1,0 +1,79 @@
+-- Each turn passes one entry and its row, and puts it behind those before it where the row holds something.
+use mathlib.Core.Path.{refl, ◌∙◌}
+use Prim.Native.Nat.{◌+◌, ◌-◌}
+use native.Mathlib.Omega.{arith}
+use Rattle.held.specs.Held.{held_value}
+use Rattle.held.proofs.Laws.Runs.{lies_inside}
+use Rattle.writing.specs.Bytes.{listed, list_bytes}
+use Rattle.writing.proofs.Laws.Showing.{adds_then}
+use Rattle.writing.proofs.Laws.Telling.{Tellings, telling_start, telling_next, telling_end}
+use Rattle.refined.specs.Finishing.{kept}
+use Rattle.refined.proofs.Laws.KeepingLists.{Waiting, tell_kept, kept_told, kept_turn, turn_lying, kept_piece}
+use Rattle.refined.proofs.Laws.KeepingLists.{waiting_writ, waiting_few, waiting_ends}
+use Rattle.refined.proofs.finishing.put_kept_list.Goals as goal
+
+pub bounds-run-at : goal.bounds-run-at
+bounds-run-at c = lies_inside c.requires.lies
+
+pub overflow_cast-n : goal.overflow_cast-n
+overflow_cast-n c = omega (arith, c.shared_slice_known-3-1.given c.args.at)
+
+pub overflow_add-e : goal.overflow_add-e
+overflow_add-e c =
+    omega (arith, lies_inside c.requires.lies, c.requires.lies.bounded)
+
+pub loop-i-init : goal.loop-i-init
+loop-i-init c = λ xs k l u. telling_start xs k l u
+
+pub overflow_mul-a : goal.overflow_mul-a
+overflow_mul-a c =
+    omega (arith, waiting_ends (kept_turn c.requires c.loop-i.invariant c.loop-i-test.true).known)
+
+pub overflow_add-to : goal.overflow_add-to
+overflow_add-to c =
+    omega (arith, waiting_ends (kept_turn c.requires c.loop-i.invariant c.loop-i-test.true).known)
+
+pub offset_bounds-room-a : goal.offset_bounds-room-a
+offset_bounds-room-a c =
+    omega (arith, waiting_ends (kept_turn c.requires c.loop-i.invariant c.loop-i-test.true).known)
+
+pub slice_bounds-put_next-start : goal.slice_bounds-put_next-start
+slice_bounds-put_next-start c = omega arith
+
+pub slice_bounds-put_next-end : goal.slice_bounds-put_next-end
+slice_bounds-put_next-end c =
+    waiting_ends (kept_turn c.requires c.loop-i.invariant c.loop-i-test.true).known
+
+pub put_next-r-requires : goal.put_next-r-requires
+put_next-r-requires c =
+    let y = kept_turn c.requires c.loop-i.invariant c.loop-i-test.true in
+    (record { entry = y.head; lies = y.lies; writ = waiting_writ y.known }, waiting_few y.known)
+
+pub past_value-e-requires : goal.past_value-e-requires
+past_value-e-requires c =
+    turn_lying (kept_turn c.requires c.loop-i.invariant c.loop-i-test.true)
+
+pub overflow_add-j : goal.overflow_add-j
+overflow_add-j c =
+    omega (arith, waiting_ends (kept_turn c.requires c.loop-i.invariant c.loop-i-test.true).known)
+
+pub overflow_add-i : goal.overflow_add-i
+overflow_add-i c =
+    omega (arith, c.loop-i-test.true, c.shared_slice_known-3-1.given c.args.at)
+
+pub loop-i-preserved : goal.loop-i-preserved
+loop-i-preserved c =
+    λ xs k l u. telling_next (c.loop-i.invariant xs k l u) c.loop-i-test.true _ _ _ _
+    (λ x ys m v. kept_piece v c.args.kind (c.loop-i.invariant xs k l u) (c.past_value-e.ensures x m)
+    (c.put_next-r.ensures (record { entry = x; lies = m; writ = waiting_writ v })))
+
+pub shape_of-out : goal.shape_of-out
+shape_of-out c =
+    c.put.ensures.size ∙ (kept_told c.requires c.loop-i.invariant).adds.size ∙ c.put-next.ensures.size
+
+pub returns : goal.returns
+unfolding list_bytes listed kept
+returns c =
+    λ y. adds_then c.put-next.ensures
+    (adds_then (telling_end (kept_told y c.loop-i.invariant) c.loop-i-test.false refl)
+    c.put.ensures)

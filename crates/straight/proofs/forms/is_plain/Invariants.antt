@@ -1,0 +1,15 @@
+-- Every character passed is plain.
+use mathlib.Core.Path.{◌≡◌, refl, sym, ◌∙◌}
+use Prim.Native.Nat.{◌-◌}
+use lib.ListN.{length, drop}
+use borrow.Author.Tests.{not-true, not-false}
+use Rattle.syntax.specs.Forms.{all}
+use Rattle.syntax.specs.RecordLayout.{is_plain}
+use Rattle.syntax.proofs.Laws.Forms.{all_next, all_stop, all_end}
+use Rattle.straight.proofs.forms.is_plain.Given as goal
+
+abbrev pub invariant-loop-i : goal.invariant-loop-i
+invariant-loop-i l = all is_plain l.cs ≡ all is_plain (drop l.i l.cs)
+
+abbrev pub decreases-loop-i : goal.decreases-loop-i
+decreases-loop-i l = length l.cs - l.i

@@ -1,0 +1,30 @@
+-- The five characters are computed; any other must be a letter or a digit.
+use Rattle.syntax.proofs.Laws.Characters.{key_rest}
+use Rattle.syntax.specs.Forms.{is_alphanumeric, is_key_char}
+use Rattle.chars.specs.Base.{one_of}
+use mathlib.Core.Path.{ap, sym, ◌∙◌}
+use Rattle.syntax.proofs.forms.is_key_char.Goals as goal
+
+pub returns-in-45 : goal.returns-in-45
+unfolding is_alphanumeric is_key_char one_of
+returns-in-45 c = ap is_key_char (sym c.in-45.is)
+
+pub returns-in-46 : goal.returns-in-46
+unfolding is_alphanumeric is_key_char one_of
+returns-in-46 c = ap is_key_char (sym c.in-46.is)
+
+pub returns-in-47 : goal.returns-in-47
+unfolding is_alphanumeric is_key_char one_of
+returns-in-47 c = ap is_key_char (sym c.in-47.is)
+
+pub returns-in-58 : goal.returns-in-58
+unfolding is_alphanumeric is_key_char one_of
+returns-in-58 c = ap is_key_char (sym c.in-58.is)
+
+pub returns-in-95 : goal.returns-in-95
+unfolding is_alphanumeric is_key_char one_of
+returns-in-95 c = ap is_key_char (sym c.in-95.is)
+
+pub returns-in_default : goal.returns-in_default
+returns-in_default c =
+    c.is_alphanumeric.ensures ∙ key_rest _ c.in_default.in_default-own.rest.0.0.0.0.1 c.in_default.in_default-own.rest.0.0.0.1 c.in_default.in_default-own.rest.0.0.1 c.in_default.in_default-own.rest.0.1 c.in_default.in_default-own.rest.1

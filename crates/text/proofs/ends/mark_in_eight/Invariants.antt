@@ -1,0 +1,16 @@
+-- As long as none was found, no quote stands among the bytes passed.
+use mathlib.Core.Path.{◌≡◌}
+use mathlib.Core.Bool.{false}
+use Prim.Native.Nat.{◌≤◌, ◌-◌, ◌+◌}
+use native.Mathlib.Omega.{arith}
+use Rattle.text.specs.Seeking.{Nears}
+use Rattle.chars.proofs.Laws.Tests.{neither}
+use Rattle.text.proofs.Laws.Seeking.{nears_none, nears_other, nears_at}
+use borrow.Author.Rules.{rules}
+use Rattle.text.proofs.ends.mark_in_eight.Given as goal
+
+abbrev pub invariant-loop-j : goal.invariant-loop-j
+invariant-loop-j l = (l.j ≤ 8) × (l.found ≡ false → Nears l.s l.at (l.at + l.j))
+
+abbrev pub decreases-loop-j : goal.decreases-loop-j
+decreases-loop-j l = 8 - l.j

@@ -1,0 +1,36 @@
+-- A dot owes a digit or more and then an exponent or none; without it there may be an exponent alone.
+use mathlib.Core.Path.{refl}
+use mathlib.Core.List.{[], ◌∷◌}
+use native.Mathlib.Omega.{arith}
+use Rattle.text.specs.Machine.{digit, digits, fraction, exponent, optional}
+use Rattle.text.proofs.Laws.Reading.{seq, frame, goes_seq, past, failed, takes, alike, skips}
+use Rattle.text.proofs.Laws.Moves.Numbers.{fraction_is, fraction_not}
+use Rattle.text.proofs.Laws.Moves.Owing.{same_move}
+use Rattle.text.proofs.numbers.past_fraction.Goals as goal
+
+pub returns-then-s-at : goal.returns-then-s-at
+unfolding optional
+returns-then-s-at c = skips fraction [] (omega arith) refl
+
+pub returns-then-b-ne46 : goal.returns-then-b-ne46
+returns-then-b-ne46 c =
+    goes_seq c.past_exponent.result
+    (alike (fraction ∷ []) (exponent ∷ []) c.if-s-at.false
+    (same_move _ fraction exponent (fraction_not _ c.if-b-ne46.true))) c.past_exponent.ensures
+
+pub returns-in_default : goal.returns-in_default
+returns-in_default c =
+    failed (digit ∷ digits ∷ []) (exponent ∷ []) _ _ c.in_default.is
+    (takes fraction [] (digit ∷ digits ∷ exponent ∷ []) c.if-s-at.false (fraction_is _ c.if-b-ne46.false))
+    c.one_or_more-r.ensures
+
+pub past_exponent-requires-2 : goal.past_exponent-requires-2
+past_exponent-requires-2 c =
+    (past (digit ∷ digits ∷ []) _ _ c.in-Past.is c.one_or_more-r.ensures).high
+
+pub returns : goal.returns
+returns c =
+    goes_seq c.past_exponent-2.result
+    (seq (takes fraction [] (digit ∷ digits ∷ exponent ∷ []) c.if-s-at.false (fraction_is _ c.if-b-ne46.false))
+    (frame (exponent ∷ []) (past (digit ∷ digits ∷ []) _ _ c.in-Past.is c.one_or_more-r.ensures)))
+    c.past_exponent-2.ensures

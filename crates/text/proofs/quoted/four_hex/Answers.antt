@@ -1,0 +1,56 @@
+-- So many digits are still owed as `left` says.
+use mathlib.Core.Path.{refl}
+use mathlib.Core.List.{[]}
+use native.Mathlib.Omega.{arith}
+use lib.ListN.{replicate}
+use Rattle.text.specs.Reading.{Leads}
+use Rattle.text.specs.Machine.{hex, optional}
+use Rattle.text.proofs.Laws.Reading.{stay, seq, fall, takes, refuses, stops, peel, spent}
+use Rattle.text.proofs.Laws.Moves.Strings.{hex_digit_lem, hex_upper, hex_lower, hex_below, hex_between, hex_gap}
+use Rattle.text.proofs.Laws.Moves.Strings.{hex_above}
+use Rattle.text.proofs.quoted.four_hex.Goals as goal
+use Rattle.text.proofs.quoted.four_hex.Goals.{then-b-lt58, else-b-lt58+else-b-lt65+then-b-lt71}
+use Rattle.text.proofs.quoted.four_hex.Goals.{else-b-lt58+else-b-lt65+else-b-lt71+else-b-lt97+then-b-lt103}
+
+pub loop-left-init : goal.loop-left-init
+loop-left-init c = stay _ _ _ c.requires
+
+pub returns-then-s-i : goal.returns-then-s-i
+unfolding optional
+returns-then-s-i c =
+    fall (seq c.loop-left.invariant (peel hex c.loop-left.left (omega arith) c.loop-left.invariant.high))
+    (stops hex _ (omega (arith, c.loop-left.invariant.high)) refl)
+
+pub returns-in_default : goal.returns-in_default
+returns-in_default c =
+    fall (seq c.loop-left.invariant (peel hex c.loop-left.left (omega arith) c.loop-left.invariant.high))
+    (refuses hex _ c.if-s-i.false (hex_below _ c.in_default.if-b-lt48-own.true))
+
+pub returns-in_default-2 : goal.returns-in_default-2
+returns-in_default-2 c =
+    fall (seq c.loop-left.invariant (peel hex c.loop-left.left (omega arith) c.loop-left.invariant.high))
+    (refuses hex _ c.if-s-i.false (hex_between _ c.in_default.if-b-lt58-own.false c.in_default.if-b-lt65-own.true))
+
+pub returns-in_default-3 : goal.returns-in_default-3
+returns-in_default-3 c =
+    fall (seq c.loop-left.invariant (peel hex c.loop-left.left (omega arith) c.loop-left.invariant.high))
+    (refuses hex _ c.if-s-i.false (hex_gap _ c.in_default.if-b-lt71-own.false c.in_default.if-b-lt97-own.true))
+
+pub returns-in_default-4 : goal.returns-in_default-4
+returns-in_default-4 c =
+    fall (seq c.loop-left.invariant (peel hex c.loop-left.left (omega arith) c.loop-left.invariant.high))
+    (refuses hex _ c.if-s-i.false (hex_above _ c.in_default.if-b-lt103-own.false))
+
+pub returns : goal.returns
+returns c = seq c.loop-left.invariant (spent hex c.loop-left.left (omega arith) c.loop-left.invariant.high)
+
+pub loop-left-preserved : goal.loop-left-preserved
+loop-left-preserved c =
+    let owed = seq c.loop-left.invariant (peel hex c.loop-left.left (omega arith) c.loop-left.invariant.high) in
+    elim c.in-48-to-57-1.branch [
+      then-b-lt58 w ↦ seq owed (takes hex _ [] c.if-s-i.false (hex_digit_lem _ (omega arith) (omega arith)))
+    | else-b-lt58+else-b-lt65+then-b-lt71 w ↦
+        seq owed (takes hex _ [] c.if-s-i.false (hex_upper _ (omega arith) (omega arith)))
+    | else-b-lt58+else-b-lt65+else-b-lt71+else-b-lt97+then-b-lt103 w ↦
+        seq owed (takes hex _ [] c.if-s-i.false (hex_lower _ (omega arith) (omega arith)))
+    ]

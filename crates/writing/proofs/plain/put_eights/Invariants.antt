@@ -1,0 +1,14 @@
+-- Each turn puts eight characters that were tested and for which there is room.
+use Prim.Native.Nat.{◌≤◌, ◌-◌, ◌+◌}
+use native.Mathlib.Omega.{arith}
+use lib.ListN.{length}
+use borrow.Author.Tests.{not-false}
+use Rattle.writing.specs.Plain.{PlainPut}
+use Rattle.writing.proofs.Laws.Plain.{put_none, put_then}
+use Rattle.writing.proofs.plain.put_eights.Given as goal
+
+abbrev pub invariant-loop-n : goal.invariant-loop-n
+invariant-loop-n l = PlainPut l.ys l.i l.n l.initial.out l.at l.out
+
+abbrev pub decreases-loop-n : goal.decreases-loop-n
+decreases-loop-n l = length l.ys - l.i - l.n

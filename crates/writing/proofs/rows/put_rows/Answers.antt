@@ -1,0 +1,83 @@
+-- Each turn puts one row behind those before it.
+use Prim.{tt}
+use mathlib.Core.Path.{refl}
+use Prim.Native.Nat.{◌+◌, ◌-◌}
+use native.Mathlib.Omega.{arith}
+use Rattle.held.specs.Held.{held_row}
+use Rattle.held.proofs.Laws.Runs.{lies_inside}
+use Rattle.held.proofs.Laws.Parts.{row_inside, row_operator}
+use Rattle.writing.specs.Bytes.{rows_from}
+use Rattle.writing.proofs.Laws.Telling.{Tellings, Freely, telling_start, telling_lying, telling_next}
+use Rattle.writing.proofs.Laws.Telling.{telling_end, list_told}
+use Rattle.writing.proofs.Laws.Lying.{row_piece}
+use Rattle.writing.proofs.rows.put_rows.Goals as goal
+
+pub bounds-run-at : goal.bounds-run-at
+bounds-run-at c = lies_inside c.requires.lies
+
+pub overflow_cast-n : goal.overflow_cast-n
+overflow_cast-n c = omega (arith, c.shared_slice_known-2-1.given c.args.at)
+
+pub overflow_add-p : goal.overflow_add-p
+overflow_add-p c =
+    omega (arith, lies_inside c.requires.lies, c.requires.lies.bounded)
+
+pub loop-i-init : goal.loop-i-init
+loop-i-init c = λ xs k l u. telling_start xs k l u
+
+pub offset_bounds-run-p : goal.offset_bounds-run-p
+offset_bounds-run-p c =
+    let r = telling_lying (list_told c.requires.thing c.requires.lies tt c.loop-i.invariant)
+    c.loop-i-test.true in
+    omega (arith, row_inside r.thing r.lies, r.lies.bounded)
+
+pub bounds-run-p : goal.bounds-run-p
+bounds-run-p c =
+    let r = telling_lying (list_told c.requires.thing c.requires.lies tt c.loop-i.invariant)
+    c.loop-i-test.true in
+    row_inside r.thing r.lies
+
+pub put_row-next-requires : goal.put_row-next-requires
+put_row-next-requires c =
+    telling_lying (list_told c.requires.thing c.requires.lies tt c.loop-i.invariant)
+    c.loop-i-test.true
+
+pub offset_bounds-run-p-in-loop-i : goal.offset_bounds-run-p-in-loop-i
+offset_bounds-run-p-in-loop-i c =
+    let r = telling_lying (list_told c.requires.thing c.requires.lies tt c.loop-i.invariant)
+    c.loop-i-test.true in
+    omega (arith, row_inside r.thing r.lies, r.lies.bounded)
+
+pub bounds-run-p-in-loop-i : goal.bounds-run-p-in-loop-i
+bounds-run-p-in-loop-i c =
+    let r = telling_lying (list_told c.requires.thing c.requires.lies tt c.loop-i.invariant)
+    c.loop-i-test.true in
+    row_inside r.thing r.lies
+
+pub row-p-requires : goal.row-p-requires
+row-p-requires c =
+    telling_lying (list_told c.requires.thing c.requires.lies tt c.loop-i.invariant)
+    c.loop-i-test.true
+
+pub overflow_add-i : goal.overflow_add-i
+overflow_add-i c =
+    omega (
+      arith,
+      c.loop-i-test.true,
+      c.shared_slice_known-2-1.given
+          c.args.at,
+    )
+
+pub loop-i-preserved : goal.loop-i-preserved
+loop-i-preserved c =
+    λ xs k l _. telling_next (c.loop-i.invariant xs k l tt) c.loop-i-test.true _ _ _ _
+    (λ x ys m _. row_piece (c.loop-i.invariant xs k l tt) x ys (c.row-p.ensures x m).past (row_operator x m)
+    c.put_turning-before.ensures (c.put_row-next.ensures x m))
+
+pub shape_of-out : goal.shape_of-out
+shape_of-out c =
+    (list_told c.requires.thing c.requires.lies tt c.loop-i.invariant).adds.size
+
+pub returns : goal.returns
+unfolding rows_from
+returns c = λ xs l. telling_end (list_told xs l tt c.loop-i.invariant) c.loop-i-test.false refl
