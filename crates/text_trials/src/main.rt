@@ -3,11 +3,13 @@
 //   s BYTES   the characters of the bytes as what stands between two quotes, and behind a bar their written form
 #![tactic(auto)]
 
-ghost use Rattle.std.specs.Prelude.{◌<◌, ◌≤◌};
+ghost use Rattle.std.specs.Prelude.{◌<◌, ◌≤◌, length, IfOk};
 
 use chars::lines::Line;
 use chars::strings::Decoded;
 use chars::written::Written;
+use std::io;
+use std::io::Read;
 use text::verdict::Verdict;
 
 // A hexadecimal digit's number.
@@ -44,19 +46,11 @@ fn spell(line: &[u8], out: &mut [u8]) -> usize {
     n
 }
 
-fn say_verdict(v: Verdict) {
+fn say_verdict(rt: &impl Print, v: Verdict) -> io::Result<()> {
     match v {
-        Verdict::Whole => {
-            io::write_all(1, b"whole\n");
-        }
-        Verdict::Breaks(p) => {
-            io::write_all(1, b"breaks ");
-            io::print_decimal(1, p as u64);
-            io::write_all(1, b"\n");
-        }
-        Verdict::Deep => {
-            io::write_all(1, b"deep\n");
-        }
+        Verdict::Whole => println!(rt; "whole"),
+        Verdict::Breaks(p) => println!(rt; "breaks {p}"),
+        Verdict::Deep => println!(rt; "deep"),
     }
 }
 
@@ -65,97 +59,109 @@ fn wide(c: u32) -> u64 {
 }
 
 // The characters by their numbers.
-fn say_characters(cs: &[u32]) {
-    let mut i = 0;
-    while i < cs.len() {
-        io::print_decimal(1, wide(cs[i]));
-        io::write_all(1, b" ");
-        i += 1;
+fn say_characters(rt: &impl Print, cs: &[u32]) -> io::Result<()> {
+    for c in cs {
+        print!(rt; "{} ", wide(*c))?;
     }
+    Ok(())
 }
 
 // The first n bytes of a run.
-fn say_bytes(out: &[u8], n: usize) {
+fn say_bytes(rt: &impl Print, out: &[u8], n: usize) -> io::Result<()> {
     if n <= out.len() {
-        io::write_all(1, &out[..n]);
+        rt.write_all(&out[..n])?;
     }
+    Ok(())
 }
 
-fn say_written(cs: &[u32]) {
+fn say_written(rt: &impl Print, cs: &[u32]) -> io::Result<()> {
     let mut out = [0u8; 8192];
     let w = chars::written::write_text(cs, &mut out);
     match w {
         Written::Count(n) => {
-            io::write_all(1, b"| ");
-            say_bytes(&out, n);
+            print!(rt; "| ")?;
+            say_bytes(rt, &out, n)
         }
-        Written::Short => {
-            io::write_all(1, b"short");
-        }
+        Written::Short => print!(rt; "short"),
     }
 }
 
 // The first n characters of a run, and their written form.
-fn say_text(cs: &[u32], n: usize) {
+fn say_text(rt: &impl Print, cs: &[u32], n: usize) -> io::Result<()> {
     if n <= cs.len() {
-        say_characters(&cs[..n]);
-        say_written(&cs[..n]);
+        say_characters(rt, &cs[..n])?;
+        say_written(rt, &cs[..n])?;
     }
+    Ok(())
 }
 
-fn say_decoded(s: &[u8]) {
+fn say_decoded(rt: &impl Print, s: &[u8]) -> io::Result<()> {
     let mut run = [0u32; 2048];
     let d = chars::strings::decode(s, &mut run);
     match d {
         Decoded::Count(n) => {
-            say_text(&run, n);
+            say_text(rt, &run, n)?;
         }
         Decoded::Lone => {
-            io::write_all(1, b"lone");
+            print!(rt; "lone")?;
         }
         Decoded::Short => {
-            io::write_all(1, b"short");
+            print!(rt; "short")?;
         }
     }
-    io::write_all(1, b"\n");
+    println!(rt)
 }
 
 // The answer to the first n bytes of a run.
-fn say(letter: u8, bytes: &[u8], n: usize) {
+fn say(rt: &impl Print, letter: u8, bytes: &[u8], n: usize) -> io::Result<()> {
     if bytes.len() < n {
-        return;
+        return Ok(());
     }
     if letter == b'j' {
-        say_verdict(text::scan::scan(&bytes[..n]));
-        return;
+        return say_verdict(rt, text::scan::scan(&bytes[..n]));
     }
-    say_decoded(&bytes[..n]);
+    say_decoded(rt, &bytes[..n])
 }
 
 // One line of the trials.
-fn answer(line: &[u8]) {
+fn answer(rt: &impl Print, line: &[u8]) -> io::Result<()> {
     if line.len() == 0 {
-        return;
+        return Ok(());
     }
     let mut bytes = [0u8; 2048];
     let n = spell(line, &mut bytes);
-    say(line[0], &bytes, n);
+    say(rt, line[0], &bytes, n)
 }
 
-fn run(s: &[u8]) {
+fn run(rt: &impl Print, s: &[u8]) -> io::Result<()> {
     let mut at = 0;
     loop {
         let l = chars::lines::line_at(s, at);
         let Line::Here { end, next } = l else {
-            return;
+            return Ok(());
         };
-        answer(&s[at..end]);
+        answer(rt, &s[at..end])?;
         at = next;
     }
 }
 
-fn main() {
-    let mut input = io::large_buffer();
-    let n = io::read_full(0, &mut input);
-    run(&input[..n]);
+// Reads until the run is full or the input ends, and tells how many bytes it has of it.
+fn read_full(input: &mut impl Read, out: &mut [u8]) -> io::Result<usize>
+    ensures { IfOk result (λ n. n ≤ length out.new) }
+{
+    let mut n = 0;
+    while n < out.len() {
+        let got = input.read(&mut out[n..])?;
+        if got == 0 {
+            return Ok(n);
+        }
+        n += got;
+    }
+    Ok(n)
+}
+
+fn main(rt: HostRuntime) -> io::Result<()> {
+    let mut input = [0u8; 65536];
+    let n = read_full(&mut rt.reader(), &mut input)?;
+    run(&rt, &input[..n])
 }
