@@ -4,8 +4,7 @@
 --   A text is its length and its characters; a list its length and its parts; a number its upper half, marked so that
 --   it is no length of a text, and its lower 32 bits.
 --   over_limit p    document 01, "Numbered refusals", the limits of a policy
-use Rattle.std.specs.Prelude.{Bool, true, false, List, [], ◌∷◌, ◌++◌, ℕ, ◌+◌, ◌/◌, ◌%◌, ltb, length}
-use Rattle.chars.specs.Base.{pick}
+use Rattle.std.specs.Prelude.{Bool, false, List, [], ◌∷◌, ◌++◌, ℕ, ◌+◌, ◌/◌, ◌%◌, ltb, length}
 use Rattle.syntax.specs.Limits.{most_statements, most_entries, most_rows, entry_characters, key_characters}
 use Rattle.syntax.specs.Policy.{Effect, Allow, Deny, Operator, StringEquals, StringLike, NumericLessThanEquals}
 use Rattle.syntax.specs.Policy.{Value, text, number, Row, Statement, Policy, Context, Request}

@@ -3,7 +3,7 @@
 --   which_of ns w          the turn of a raw name among words, from 1; 0 for none
 --   Slotted s ns ms e r   places by turn: at 0 the object's end e, or 0 where a name is unknown or repeated; at k where
 --                         word k's value stands
-use Rattle.std.specs.Prelude.{◌≡◌, Bool, true, false, ◌⊎◌, List, [], ◌∷◌, ℕ, zero, suc, ◌-◌, ◌≤◌, ◌<◌, length, get_or}
+use Rattle.std.specs.Prelude.{◌≡◌, true, false, ◌⊎◌, List, [], ◌∷◌, ℕ, zero, suc, ◌-◌, ◌≤◌, ◌<◌, length, get_or}
 use Rattle.chars.specs.Base.{pick}
 use Rattle.text.specs.Json.{Json, Members}
 use Rattle.chars.specs.Decoding.{text_of, same_text}

@@ -13,7 +13,7 @@ use Rattle.syntax.specs.Limits.{run_numbers}
 use Rattle.syntax.specs.Policy.{Effect, Row, Policy}
 use Rattle.syntax.specs.Forms.{Reading, wrong, read}
 use Rattle.syntax.specs.Words.{edition_word}
-use Rattle.syntax.specs.Members.{then, is_word, Slot, none, many, one, optional, one_or_more, differing}
+use Rattle.syntax.specs.Members.{then, is_word, Slot, optional, one_or_more, differing}
 use Rattle.parts.specs.Slots.{Placed}
 use Rattle.syntax.specs.PolicyLayout.{action_of, resource_of, condition_of, sid_of, statement_of, same_sid, policy_of}
 use Rattle.held.specs.Held.{held_text, held_list, held_row, effect_number, held}

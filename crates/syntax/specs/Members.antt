@@ -9,7 +9,7 @@ use Rattle.std.specs.Prelude.{Bool, true, false, not, List, [], ◌∷◌, ℕ}
 use Rattle.chars.specs.Base.{pick}
 use Rattle.text.specs.Json.{Json, null, bool, number, string, list, object, Values, no_more, also, Members}
 use Rattle.text.specs.Json.{no_members, named}
-use Rattle.chars.specs.Decoding.{Text, text_of, same_text}
+use Rattle.chars.specs.Decoding.{text_of, same_text}
 use Rattle.syntax.specs.Forms.{Reading, wrong, read, either, both}
 
 abbrev pub then : {A B : Type 0} → Reading A → (A → Reading B) → Reading B

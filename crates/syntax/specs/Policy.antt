@@ -1,7 +1,7 @@
 -- Policies and requests as plain data: document 01, "Policy layout" and "Record layout".
 --   A text is a list of characters by their numbers; where an entry may have wildcards, `star` and `any` are * and ?.
 --   Entries, rows and statements are in reading order.
-use Rattle.std.specs.Prelude.{List, [], ℕ}
+use Rattle.std.specs.Prelude.{List, ℕ}
 
 -- numbers above every character's
 abbrev pub star : ℕ

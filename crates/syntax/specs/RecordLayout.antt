@@ -3,9 +3,9 @@
 --   request_of t   ActionNames with one action; ResourceArns absent or with one; ContextEntries absent or a list
 --   context_of t   ContextKeyName, ContextKeyType and ContextKeyValues with one string
 -- Differs from 01: nowhere.
-use Rattle.std.specs.Prelude.{Bool, true, false, List, [], ◌∷◌, ℕ, eqb, leb, length}
+use Rattle.std.specs.Prelude.{Bool, List, [], ◌∷◌, ℕ, eqb, leb, length}
 use Rattle.chars.specs.Base.{pick}
-use Rattle.text.specs.Json.{Json, null, bool, number, string, list, object, Values, no_more, also}
+use Rattle.text.specs.Json.{Json, null, bool, number, string, list, object, no_more, also}
 use Rattle.syntax.specs.Limits.{entry_characters, key_characters, most_context}
 use Rattle.syntax.specs.Policy.{Value, text, Context, Request}
 use Rattle.syntax.specs.Policy as P

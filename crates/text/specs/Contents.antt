@@ -4,7 +4,7 @@
 --   Stands s t v e    the value t stands from place v up to place e
 --   Rest s ts i e     behind an element that ends at i, the elements ts, up to the end of their list at e
 --   Others s ms i e   behind a member that ends at i, the members ms, up to the end of their object at e
-use Rattle.std.specs.Prelude.{◌≡◌, Bool, true, false, List, ℕ, ◌+◌, ◌≤◌, ◌<◌, length}
+use Rattle.std.specs.Prelude.{◌≡◌, true, false, List, ℕ, ◌+◌, ◌≤◌, ◌<◌, length}
 use Rattle.chars.specs.Base.{In, At, part}
 use Rattle.text.specs.Json.{Json, Values, Members, null, bool, number, string, list, object, no_more, also}
 use Rattle.text.specs.Json.{no_members, named, depth, depths, depthm, levels, a_value, rest, members, more}

@@ -2,7 +2,7 @@
 --   Begins n bs    the bytes bs are the beginning of some JSON text of at most n levels
 --   Means s v      the verdict v is the right one on the text s
 -- Differs from 01: nowhere.  Pinned by: `verdict_means` and `verdict_unique` of Laws/Meaning.
-use Rattle.std.specs.Prelude.{◌≡◌, List, ◌++◌, ℕ, ◌+◌, ◌≤◌, ◌<◌, length, take}
+use Rattle.std.specs.Prelude.{List, ◌++◌, ℕ, ◌+◌, ◌≤◌, ◌<◌, length, take}
 use Rattle.text.specs.Json.{Json, JsonText, depth, levels}
 use Rattle.text.specs.declared.verdict.Verdict.{Verdict}
 use Rattle.text.specs.declared.verdict.Verdict.TheVariants.{Whole, Breaks, Deep}

@@ -4,7 +4,7 @@
 --   entry_bytes k x       an entry: k is 0 for Action, 2 for Resource, and the operator's number in a condition
 --   turning k o          before a row of operator o: what stands there if the last one was of operator k, 0 for none
 -- Pinned by: Laws/Bytes (put together they are WrittenForm's bytes).
-use Rattle.std.specs.Prelude.{Bool, List, [], ◌∷◌, ◌++◌, map, ℕ, zero, suc, eqb}
+use Rattle.std.specs.Prelude.{List, [], ◌∷◌, ◌++◌, map, ℕ, zero, suc, eqb}
 use Rattle.chars.specs.Base.{pick}
 use Rattle.chars.specs.Written.{written_text}
 use Rattle.text.specs.Printing.{quoted}

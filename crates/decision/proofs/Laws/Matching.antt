@@ -1,5 +1,5 @@
 -- The test says what the rules of matching say; and what a match of an entry's first symbol tells.
-use mathlib.Core.Path.{◌≡◌, refl, ap, sym}
+use mathlib.Core.Path.{◌≡◌, refl}
 use mathlib.Core.Bool.{Bool, true, false}
 use mathlib.Core.Logic.{◌⊎◌, inl, inr, ⊎_elim}
 use mathlib.Core.List.{List, [], ◌∷◌}
@@ -9,9 +9,8 @@ use native.Mathlib.Omega.{arith}
 use lib.Dec.{eqb}
 use lib.ListN.{drop}
 use borrow.Author.Tests.{eqb-true, eq-eqb, ne_eqb}
-use Rattle.chars.specs.Base.{pick}
 use Rattle.syntax.specs.Policy.{star, any}
-use Rattle.syntax.specs.Forms.{both, either}
+use Rattle.syntax.specs.Forms.{either}
 use Rattle.decision.specs.Matching.{Matches, over, nothing, further, single, itself}
 use Rattle.decision.specs.Matching.{some_ending, stands, first, matches}
 use Rattle.parts.proofs.Laws.Slots.{true_false, both_true}

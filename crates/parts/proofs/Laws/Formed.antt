@@ -2,16 +2,16 @@
 use mathlib.Core.Path.{◌≡◌, refl, sym, ap, ◌∙◌, subst}
 use mathlib.Core.Bool.{Bool, true, false}
 use mathlib.Core.List.{List, [], ◌∷◌, ◌++◌, append_assoc}
-use Prim.Native.Nat.{ℕ, ◌+◌, ◌-◌, ◌≤◌, ◌<◌}
+use Prim.Native.Nat.{ℕ, ◌+◌, ◌-◌, ◌≤◌}
 use native.Mathlib.Omega.{arith}
-use lib.ListN.{length, take, drop, set, length-append, length-set}
+use lib.ListN.{length, take, drop, set, length-append}
 use lib.Seq.{take_at, drop_at, length-take-le}
 use borrow.Rule.Slice.PartMut.{mid_of, post_of, put_mid, same_len_mid}
 use Rattle.chars.specs.Putting.{lay}
 use Rattle.syntax.specs.Forms.{Reading, wrong, read, symbols_of, is_resource}
 use Rattle.syntax.specs.Members.{then, only}
 use Rattle.held.specs.Held.{held_text}
-use Rattle.parts.specs.Holding.{Extends, Laid, Left, Holds, HoldsTo, Gathered, GathersTo, Kept}
+use Rattle.parts.specs.Holding.{Extends, Laid, Left, Holds, HoldsTo, Gathered, GathersTo}
 use Rattle.parts.specs.declared.holding.Held.{Held}
 use Rattle.parts.specs.declared.holding.Held.TheVariants.{Past, Wrong}
 use Rattle.parts.specs.declared.holding.Ended.{Ended}
@@ -19,7 +19,7 @@ use Rattle.parts.specs.declared.holding.Ended.TheVariants as N
 use Rattle.parts.specs.declared.holding.Listed.{Listed}
 use Rattle.parts.specs.declared.holding.Listed.TheVariants as L
 use Rattle.parts.proofs.Laws.Holding.{laid_extends}
-use Rattle.parts.proofs.Laws.Extends.{extends_all, extends_within, extends_then, extends_front, extends_after}
+use Rattle.parts.proofs.Laws.Extends.{extends_all, extends_within, extends_front, extends_after}
 
 -- ---- the answer
 

@@ -4,13 +4,13 @@ use mathlib.Core.List.{List, [], ◌∷◌, ◌++◌}
 use Prim.Native.Nat.{ℕ, suc, ◌+◌, ◌-◌, ◌≤◌, ◌<◌}
 use native.Mathlib.Omega.{arith}
 use lib.ListN.{length}
-use Rattle.text.specs.Json.{Json, list, Values, no_more, also}
+use Rattle.text.specs.Json.{Json, list, Values, no_more}
 use Rattle.text.specs.Contents.{Stands, Standing, Rest, Resting, Comes, First}
 use Rattle.text.specs.declared.walk.Element.{Element}
 use Rattle.text.specs.declared.walk.Element.TheVariants as E
 use Rattle.text.proofs.Laws.Contents.{stands_unique, stands_inside, stands_done}
 use Rattle.text.proofs.Laws.Places.{value_grows}
-use Rattle.syntax.specs.Forms.{Reading, wrong, read}
+use Rattle.syntax.specs.Forms.{Reading, read}
 use Rattle.syntax.specs.Members.{cons, each}
 use Rattle.parts.specs.Room.{cost, costs, Holdable, HoldableList}
 use Rattle.parts.specs.Holding.{Laid, Left, Gathered}

@@ -5,13 +5,12 @@
 use mathlib.Core.Path.{◌≡◌, refl, sym, ap, ◌∙◌}
 use mathlib.Core.Bool.{Bool, true, false}
 use mathlib.Core.List.{List, [], ◌∷◌}
-use Prim.Native.Nat.{ℕ, zero, suc, ◌+◌, ◌-◌, ◌≤◌, ◌<◌}
+use Prim.Native.Nat.{ℕ, zero, suc, ◌+◌, ◌-◌, ◌≤◌}
 use native.Mathlib.Omega.{arith}
-use native.Mathlib.Numerals.{sub-one}
-use lib.ListN.{length, take, drop, get_or, length-drop}
+use lib.ListN.{length, drop, length-drop}
 use lib.Seq.{length-take-le}
 use Rattle.chars.specs.Base.{pick}
-use Rattle.text.specs.Json.{Json, null, bool, number, string, list, object, Values, no_more, also, Members}
+use Rattle.text.specs.Json.{Json, null, bool, number, string, list, object, Values, Members}
 use Rattle.text.specs.Json.{no_members, named, Spelt, Quoted, Piece, a_value, elements, rest, members, more, Reads}
 use Rattle.text.specs.Json.{a_null, a_true, a_false, a_number, a_string, empty_list, some_list, element, close_list}
 use Rattle.text.specs.Json.{comma_list, empty_object, some_object, member, close_object, comma_object}
@@ -19,7 +18,6 @@ use Rattle.chars.specs.Decoding.{text_of, equal, same_text}
 use Rattle.text.specs.Contents.{Stands}
 use Rattle.text.proofs.Laws.Spaces.{space_low}
 use Rattle.chars.proofs.Laws.Strings.Lengths.{chars_few}
-use Rattle.syntax.specs.Forms.{both}
 use Rattle.syntax.specs.Members.{Slot, none, one, many, again, slot}
 use Rattle.parts.specs.Slots.{words_of, word_at, Turn}
 use Rattle.parts.specs.Room.{cost, costs, costm, Roomy}

@@ -1,8 +1,8 @@
 -- One thing or a list of at least one, held behind their number; and objects that have to have a member.
 use mathlib.Core.Path.{◌≡◌, refl, sym, ap, ◌∙◌, subst}
 use mathlib.Core.Bool.{Bool, true, false}
-use mathlib.Core.List.{List, [], ◌∷◌, ◌++◌}
-use Prim.Native.Nat.{ℕ, suc, ◌+◌, ◌≤◌, ◌<◌}
+use mathlib.Core.List.{List, [], ◌∷◌}
+use Prim.Native.Nat.{ℕ, ◌+◌, ◌≤◌, ◌<◌}
 use native.Mathlib.Omega.{arith}
 use lib.ListN.{length, set, length-append}
 use Rattle.text.specs.Json.{Json, null, bool, number, string, list, object, Values, no_more, also, Members}
@@ -13,7 +13,7 @@ use Rattle.syntax.specs.Members.{cons, each, some, one_or_more}
 use Rattle.syntax.specs.Policy.{Value, text, Row, Statement}
 use Rattle.syntax.specs.Policy as P
 use Rattle.held.specs.Held.{held_each, held_list, held_value, held_row, held_statement}
-use Rattle.parts.specs.Room.{cost, costs, costm, Roomy, Holdable, HoldableList, HoldableObject}
+use Rattle.parts.specs.Room.{cost, costs, costm, Holdable, HoldableList, HoldableObject}
 use Rattle.parts.specs.Holding.{is_list, is_object, Extends, Laid, Left, Gathered}
 use Rattle.parts.proofs.Laws.Holding.{never}
 use Rattle.parts.proofs.Laws.Extends.{extends_front, extends_within}

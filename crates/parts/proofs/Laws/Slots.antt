@@ -1,21 +1,19 @@
 -- One walk over members fills every slot: the words of a layout differ, so a name has one turn, and what was found
 -- before is kept beside what is still to come.
-use mathlib.Core.Path.{◌≡◌, refl, sym, ap, ◌∙◌, subst}
+use mathlib.Core.Path.{◌≡◌, refl, sym, ap, ◌∙◌}
 use mathlib.Core.Bool.{Bool, true, false}
-use mathlib.Core.Logic.{◌⊎◌, inl, inr}
 use mathlib.Core.List.{List, [], ◌∷◌}
-use Prim.Native.Nat.{ℕ, zero, suc, ◌+◌, ◌-◌, ◌≤◌, ◌<◌}
+use Prim.Native.Nat.{ℕ, zero, suc, ◌+◌, ◌≤◌, ◌<◌}
 use native.Mathlib.Omega.{arith}
 use native.Mathlib.Numerals.{sub-one}
-use native.Mathlib.Decide.{ℕ_discrete, dec_lt}
 use lib.Dec.{eqb}
 use lib.ListN.{length, get_or}
 use borrow.Author.Tests.{eqb-true, eq-eqb}
 use Rattle.chars.specs.Base.{pick}
-use Rattle.text.specs.Json.{Json, Members, no_members, named}
+use Rattle.text.specs.Json.{Json, Members, named}
 use Rattle.chars.specs.Decoding.{Text, text_of, equal, same_text}
 use Rattle.syntax.specs.Forms.{both, either}
-use Rattle.syntax.specs.Members.{Slot, none, one, many, again, slot, is_among, known}
+use Rattle.syntax.specs.Members.{Slot, none, one, many, again, slot, is_among}
 use Rattle.parts.specs.Slots.{later, which_of, word_at, Turn}
 
 -- ---- a text is one word

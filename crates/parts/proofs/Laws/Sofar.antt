@@ -1,6 +1,6 @@
 -- So far: things held one behind another, and with what is still to be read they are the whole.
 use mathlib.Core.Path.{◌≡◌, refl, sym, ap, ◌∙◌, subst}
-use mathlib.Core.Bool.{Bool, true, false}
+use mathlib.Core.Bool.{Bool, true}
 use mathlib.Core.List.{List, [], ◌∷◌, ◌++◌, append_assoc}
 use Prim.Native.Nat.{ℕ, ◌+◌, ◌≤◌}
 use native.Mathlib.Omega.{arith}
@@ -11,7 +11,7 @@ use Rattle.held.specs.Held.{held_each}
 use Rattle.parts.specs.Room.{Roomy}
 use Rattle.parts.specs.Holding.{Extends, Laid, Left}
 use Rattle.parts.proofs.Laws.Extends.{extends_none, extends_then}
-use Rattle.parts.proofs.Laws.Differ.{differ_snoc, differ_broken}
+use Rattle.parts.proofs.Laws.Differ.{differ_broken}
 
 -- ---- what was read before
 

@@ -1,15 +1,15 @@
 -- A string is a word as the part between its quotes is; words are tried in their turn.
 use mathlib.Core.Path.{◌≡◌, refl, sym, ap, ◌∙◌, subst}
-use mathlib.Core.Bool.{Bool, true, false}
+use mathlib.Core.Bool.{true, false}
 use mathlib.Core.List.{List}
 use Prim.Native.Nat.{ℕ}
-use Rattle.chars.specs.Base.{pick, part}
+use Rattle.chars.specs.Base.{part}
 use Rattle.text.specs.Json.{Json, null, bool, number, string, list, object}
 use Rattle.text.specs.Contents.{kind_of, Stands, Raw}
 use Rattle.chars.specs.Decoding.{text_of, same_text}
 use Rattle.text.specs.declared.walk.Span.{Span}
 use Rattle.syntax.specs.Policy as P
-use Rattle.syntax.specs.Forms.{Reading, wrong, read}
+use Rattle.syntax.specs.Forms.{wrong, read}
 use Rattle.syntax.specs.Words.{allow_word, deny_word, string_equals_word, string_like_word, numeric_less_than_equals_word}
 use Rattle.syntax.specs.Words.{string_type_word, numeric_type_word}
 use Rattle.syntax.specs.Members.{is_word}

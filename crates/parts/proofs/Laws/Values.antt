@@ -1,12 +1,12 @@
 -- Entries of every kind as values: texts and numbers are held alike.
-use mathlib.Core.Path.{◌≡◌, refl, sym, ap, ◌∙◌}
+use mathlib.Core.Path.{◌≡◌, sym, ap}
 use mathlib.Core.Bool.{true, false}
 use mathlib.Core.List.{List}
 use Prim.Native.Nat.{ℕ}
 use Rattle.text.specs.Json.{Json}
 use Rattle.syntax.specs.Policy.{text}
 use Rattle.syntax.specs.Policy as P
-use Rattle.syntax.specs.Forms.{Reading, wrong, read, symbols_of}
+use Rattle.syntax.specs.Forms.{Reading, symbols_of}
 use Rattle.syntax.specs.Members.{then, characters_of}
 use Rattle.syntax.specs.PolicyLayout.{as_text, as_number, action_of, resource_of, number_of_json, value_of}
 use Rattle.held.specs.Held.{held_text, held_number, held_value}

@@ -1,11 +1,11 @@
 -- Things collected from the members of an object, one by one.
-use mathlib.Core.Path.{◌≡◌, refl, sym, ap, ◌∙◌, subst}
+use mathlib.Core.Path.{◌≡◌, sym, ap, ◌∙◌, subst}
 use mathlib.Core.List.{List, [], ◌∷◌, ◌++◌}
-use Prim.Native.Nat.{ℕ, suc, ◌+◌, ◌-◌, ◌≤◌, ◌<◌}
+use Prim.Native.Nat.{ℕ, ◌+◌, ◌≤◌, ◌<◌}
 use native.Mathlib.Omega.{arith}
 use lib.ListN.{length}
 use Rattle.chars.specs.Base.{part}
-use Rattle.text.specs.Json.{Json, object, Members, no_members, named}
+use Rattle.text.specs.Json.{Json, object, Members, no_members}
 use Rattle.text.specs.Contents.{Stands, Standing, Others, Continuing, Leads, Leader}
 use Rattle.text.specs.declared.walk.Member.{Member}
 use Rattle.text.specs.declared.walk.Member.TheVariants as M

@@ -1,13 +1,13 @@
 -- The walk over the operators of a condition as far as it has come.
 use mathlib.Core.Path.{◌≡◌, refl, sym, ap, ◌∙◌, subst}
-use mathlib.Core.Bool.{Bool, true, false}
+use mathlib.Core.Bool.{true, false}
 use mathlib.Core.List.{List, [], ◌∷◌, ◌++◌}
 use Prim.Native.Nat.{ℕ, ◌+◌, ◌≤◌, ◌<◌}
 use native.Mathlib.Omega.{arith}
 use lib.ListN.{length, get_or, set, replicate, length-append}
 use Rattle.chars.specs.Base.{part}
 use Rattle.text.specs.Json.{Json, null, bool, number, string, list, object, Members, no_members, named}
-use Rattle.text.specs.Contents.{Stands, Standing, Others, Continuing, Leads, Leader, kind_of}
+use Rattle.text.specs.Contents.{Stands, Others, Continuing, Leads, Leader, kind_of}
 use Rattle.text.specs.declared.walk.Member.{Member}
 use Rattle.text.specs.declared.walk.Member.TheVariants as M
 use Rattle.syntax.specs.Policy.{Operator, Row}
@@ -15,7 +15,7 @@ use Rattle.syntax.specs.Forms.{Reading, wrong, read}
 use Rattle.syntax.specs.Members.{then, members, differ, differing}
 use Rattle.syntax.specs.PolicyLayout.{rows_of, operator_of, Group, same_group, group_of, rows_in, operators_in}
 use Rattle.syntax.specs.PolicyLayout.{condition_of}
-use Rattle.held.specs.Held.{held_each, held_list, held_row, operator_number}
+use Rattle.held.specs.Held.{held_row, operator_number}
 use Rattle.parts.specs.Room.{cost, Holdable, HoldableObject}
 use Rattle.parts.specs.Spoken.{operator_is, told_operator}
 use Rattle.parts.specs.Holding.{is_object, Extends, Laid, Left, Gathered}
@@ -23,8 +23,7 @@ use Rattle.parts.specs.declared.words.Operator as W
 use Rattle.parts.specs.declared.words.Word.{Word}
 use Rattle.parts.specs.declared.words.Word.TheVariants.{Is, Wrong}
 use Rattle.parts.proofs.Laws.Holding.{never}
-use Rattle.parts.proofs.Laws.Extends.{extends_front}
-use Rattle.parts.proofs.Laws.Formed.{then_wrong, then_read, left_then}
+use Rattle.parts.proofs.Laws.Formed.{then_wrong, then_read}
 use Rattle.parts.proofs.Laws.Fits.{wrong_read, then_inv, only_inv, cons_inv}
 use Rattle.policy.proofs.Laws.FitsPolicy.{group_fits}
 use Rattle.parts.proofs.Laws.Walking.{left_of}
@@ -35,7 +34,7 @@ use Rattle.policy.proofs.Laws.Collecting.{Collecting, collecting_start, whole_to
 use Rattle.policy.proofs.Laws.Collecting.{collecting_past}
 use Rattle.policy.proofs.Laws.Collecting.{next_cost, next_members, next_holdable}
 use Rattle.policy.proofs.Laws.Collecting.{next_continuing, next_wrong, collecting_more, collecting_less}
-use Rattle.policy.proofs.Laws.Groups.{Many, Inside, many_rows, rows_inside, held_group, groups_held, rows_snoc}
+use Rattle.policy.proofs.Laws.Groups.{Many, Inside, many_rows, held_group, groups_held, rows_snoc}
 use Rattle.straight.proofs.Laws.Seen.{Seen, seen_none, seen_more}
 use Rattle.policy.proofs.Laws.Groups.{operators_is}
 

@@ -1,7 +1,7 @@
 -- Bytes come to one outcome, by either rules; what the readers of whole texts need of it.
 use mathlib.Core.Path.{◌≡◌, refl, sym, ap, ◌∙◌, subst}
 use mathlib.Core.Bool.{Bool, true, false}
-use mathlib.Core.List.{List, [], ◌∷◌, ◌++◌}
+use mathlib.Core.List.{List}
 use Prim.Native.Nat.{ℕ, ◌+◌, ◌≤◌, ◌<◌}
 use native.Mathlib.Omega.{arith}
 use native.Mathlib.Decide.{dec_lt}
@@ -10,27 +10,25 @@ use lib.ListN.{length, take}
 use lib.Seq.{length-take-le}
 use borrow.Author.Tests.{lt-ltb, le-ltb}
 use Rattle.chars.specs.Base.{pick}
-use Rattle.text.specs.Json.{Json, levels, JsonText}
-use Rattle.text.specs.Verdicts.{Text, BreaksAt, Sinks, Means}
+use Rattle.text.specs.Json.{Json, levels}
+use Rattle.text.specs.Verdicts.{Text, Means}
 use Rattle.text.specs.Machine.{verdict}
 use Rattle.text.specs.Contents.{Stands, Rooted}
 use Rattle.text.specs.declared.verdict.Verdict.{Verdict}
 use Rattle.text.specs.declared.verdict.Verdict.TheVariants.{Whole, Breaks, Deep}
 use Rattle.text.proofs.Laws.Meaning.{verdict_means, verdict_unique}
-use Rattle.text.proofs.Laws.Contents.{contents, contents_is, contents_says, stands_done, stands_unique}
-use Rattle.syntax.specs.Policy.{Policy, Request}
+use Rattle.text.proofs.Laws.Contents.{contents, contents_is, stands_done}
+use Rattle.syntax.specs.Policy.{Policy}
 use Rattle.syntax.specs.Forms.{Reading, wrong, read}
 use Rattle.syntax.specs.PolicyLayout.{policy_of}
 use Rattle.syntax.specs.RecordLayout.{request_of}
 use Rattle.held.specs.Held.{held, held_request, over_limit}
-use Rattle.parts.specs.Room.{cost, Holdable}
-use Rattle.parts.specs.Holding.{Laid, Left, Extends}
+use Rattle.parts.specs.Room.{cost}
+use Rattle.parts.specs.Holding.{Laid, Extends}
 use Rattle.held.specs.Lying.{Lies}
 use Rattle.policy.specs.Reading.{Outcome, refused, known, Rules, policy_comes, request_comes, policy_rules}
-use Rattle.policy.specs.Reading.{record_rules, Says, long, broken, deep, text, Knows, Answers, Lent, Fit}
+use Rattle.policy.specs.Reading.{record_rules, Says, long, broken, deep, text, Knows, Lent, Fit}
 use Rattle.policy.specs.declared.refusals.Refusal.TheVariants.{PolicyLayout, PolicyLimit, RecordLayout}
-use Rattle.policy.specs.declared.reading.Read.{Read}
-use Rattle.policy.specs.declared.reading.Read.TheVariants as R
 use Rattle.parts.specs.declared.holding.Held.{Held}
 use Rattle.parts.specs.declared.holding.Held.TheVariants as H
 use Rattle.objects.specs.Telling.{TakenText, TakesText}

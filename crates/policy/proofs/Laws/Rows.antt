@@ -1,24 +1,23 @@
 -- Condition rows: a row from its key and its values, rows of one operator with different keys.
-use mathlib.Core.Path.{◌≡◌, refl, sym, ap, ◌∙◌, subst}
-use mathlib.Core.Bool.{Bool, true, false}
+use mathlib.Core.Path.{◌≡◌, refl, ap, ◌∙◌, subst}
+use mathlib.Core.Bool.{true, false}
 use mathlib.Core.List.{List, [], ◌∷◌, ◌++◌}
-use Prim.Native.Nat.{ℕ, suc, ◌+◌, ◌≤◌, ◌<◌}
+use Prim.Native.Nat.{ℕ, ◌+◌, ◌≤◌, ◌<◌}
 use native.Mathlib.Omega.{arith}
 use lib.ListN.{length, set}
 use Rattle.chars.specs.Base.{part}
-use Rattle.text.specs.Json.{Json, null, bool, number, string, list, object, Members, no_members, named}
-use Rattle.text.specs.Contents.{Stands, Standing, Others, Continuing, Leads, Leader}
+use Rattle.text.specs.Json.{Json, object, Members}
+use Rattle.text.specs.Contents.{Stands, Others, Continuing, Leads, Leader}
 use Rattle.text.specs.declared.walk.Member.{Member}
 use Rattle.text.specs.declared.walk.Member.TheVariants as M
-use Rattle.syntax.specs.Policy.{Operator, Value, Row}
-use Rattle.syntax.specs.Forms.{Reading, wrong, read, is_key}
-use Rattle.syntax.specs.Members.{then, characters, one_or_more, members, cons, has_like, differ, differing}
-use Rattle.syntax.specs.PolicyLayout.{key_of, value_of, row_of, same_row, rows_of}
+use Rattle.syntax.specs.Policy.{Operator, Row}
+use Rattle.syntax.specs.Forms.{Reading, read, is_key}
+use Rattle.syntax.specs.Members.{then, characters, one_or_more, members, has_like, differ, differing}
+use Rattle.syntax.specs.PolicyLayout.{key_of, value_of, row_of, same_row}
 use Rattle.held.specs.Held.{held_text, held_each, held_list, held_value, held_row, operator_number}
 use Rattle.parts.specs.Room.{HoldableMember, HoldableObject}
-use Rattle.parts.specs.Holding.{is_object, Extends, Laid, Left, Gathered}
+use Rattle.parts.specs.Holding.{Extends, Laid, Left, Gathered}
 use Rattle.held.specs.Lying.{Lies, Lying, LyingMany}
-use Rattle.parts.proofs.Laws.Holding.{never}
 use Rattle.parts.proofs.Laws.Extends.{extends_front, extends_then, extends_lies, extends_within}
 use Rattle.parts.proofs.Laws.Formed.{then_wrong, then_read, left_then}
 use Rattle.parts.proofs.Laws.Fits.{then_inv, only_inv, characters_few, row_fits_lem}

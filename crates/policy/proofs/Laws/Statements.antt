@@ -19,7 +19,7 @@ use Rattle.parts.specs.Slots.{words_of, word_at, Placed, Turn, Repeated, Slotted
 use Rattle.syntax.specs.PolicyLayout.{action_of, resource_of, condition_of, effect_of, sid_of, statement_in}
 use Rattle.syntax.specs.PolicyLayout.{statement_of}
 use Rattle.held.specs.Held.{held_statement, effect_number}
-use Rattle.parts.specs.Room.{cost, costm}
+use Rattle.parts.specs.Room.{costm}
 use Rattle.parts.specs.Holding.{is_object, Extends, Laid, Left, HoldsTo}
 use Rattle.policy.specs.Statements.{effect_told, parts_of, held_parts, HoldableParts}
 use Rattle.policy.specs.Statements as S

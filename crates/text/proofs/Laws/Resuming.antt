@@ -4,9 +4,9 @@
 --   tree_is     what a value is, is told by any reading of it that ends with a byte of its own
 use mathlib.Core.Path.{◌≡◌, sym, subst}
 use mathlib.Core.List.{List, [], ◌∷◌, ◌++◌, map}
-use Prim.Native.Nat.{ℕ, ◌+◌, ◌≤◌}
+use Prim.Native.Nat.{ℕ, ◌+◌}
 use native.Mathlib.Omega.{arith}
-use lib.ListN.{length, drop}
+use lib.ListN.{drop}
 use Rattle.text.specs.Json.{Json, depth, levels, a_value, Reads}
 use Rattle.text.specs.Contents.{Ends, Stands}
 use Rattle.text.specs.Machine.{Item, byte, value}

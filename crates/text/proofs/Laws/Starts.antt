@@ -8,7 +8,7 @@ use Rattle.chars.specs.Base.{At, one_of}
 use Rattle.text.specs.Json.{Json, Values, Members, zero, from_1_9, Number, unsigned, negative, Spelt, a_value}
 use Rattle.text.specs.Json.{elements, members, Reads, a_null, a_true, a_false, a_number, a_string, empty_list}
 use Rattle.text.specs.Json.{some_list, element, empty_object, some_object, member}
-use Rattle.text.specs.Machine.{pass, ws, first, inner, move}
+use Rattle.text.specs.Machine.{pass, ws, move}
 use Rattle.text.proofs.Laws.Parts.{spelt_first}
 use Rattle.text.proofs.Laws.Moves.Bytes.{ws_over}
 

@@ -4,30 +4,23 @@
 --   values_bytes, texts_bytes         a list of a row's entries, and one of Action or Resource
 -- Rows are on the page BytesRows, statements and the policy on BytesPolicy.
 use mathlib.Core.Path.{◌≡◌, refl, sym, ap, ◌∙◌}
-use mathlib.Core.Bool.{Bool, true, false}
+use mathlib.Core.Bool.{false}
 use mathlib.Core.List.{List, [], ◌∷◌, ◌++◌, map, append_assoc}
-use Prim.Native.Nat.{ℕ, zero, suc, ◌+◌, ◌/◌, ◌%◌, ◌≤◌, ◌<◌}
+use Prim.Native.Nat.{ℕ, zero, suc, ◌+◌, ◌/◌, ◌%◌, ◌<◌}
 use native.Mathlib.Nat.{mod-lt}
 use native.Mathlib.Omega.{arith}
 use native.Mathlib.Decide.{dec_lt}
-use lib.Dec.{eqb, ltb}
+use lib.Dec.{ltb}
 use borrow.Author.Tests.{ne_eqb, le-leb, le-ltb, lt-ltb}
-use Rattle.chars.specs.Base.{pick}
-use Rattle.text.specs.Json.{Json, string, Values, no_more, also, Members, no_members, named}
+use Rattle.text.specs.Json.{Json}
 use Rattle.chars.specs.Written.{written, written_text}
-use Rattle.text.specs.Printing.{quoted, printed, printed_elements, printed_rest, printed_members, printed_more}
+use Rattle.text.specs.Printing.{quoted, printed, printed_rest}
 use Rattle.chars.proofs.Laws.Written.Runs.{text_append}
-use Rattle.syntax.specs.Policy.{Effect, Allow, Deny, Operator, StringEquals, StringLike, NumericLessThanEquals}
-use Rattle.syntax.specs.Policy.{Value, text, number, Row, Statement, Policy}
-use Rattle.held.specs.Held.{effect_number, operator_number}
-use Rattle.syntax.specs.Words.{version_word, edition_word, statement_word, condition_word}
-use Rattle.syntax.specs.PolicyLayout.{same_operator, Group}
+use Rattle.syntax.specs.Policy.{Operator, StringEquals, StringLike, NumericLessThanEquals}
+use Rattle.syntax.specs.Policy.{Value, text, number}
+use Rattle.held.specs.Held.{operator_number}
 use Rattle.writing.specs.WrittenForm.{digits_up_to, digits_of, values_of, list_of, action_tree, resource_tree, value_tree}
-use Rattle.writing.specs.WrittenForm.{joining, grouped, rows_tree, operator_word, groups_tree, condition_member}
-use Rattle.writing.specs.WrittenForm.{statement_tree, tree_of, written_policy}
-use Rattle.writing.specs.Bytes.{name, listed, entry_body, entry_bytes, list_bytes, operator_name, ending, turning}
-use Rattle.writing.specs.Bytes.{row_bytes, rows_from, condition_bytes, sid_bytes, effect_bytes, statement_bytes}
-use Rattle.writing.proofs.Laws.TreeRows.{operator_same}
+use Rattle.writing.specs.Bytes.{listed, entry_body, entry_bytes, list_bytes}
 
 -- ---- digits
 

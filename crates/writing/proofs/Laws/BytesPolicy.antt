@@ -5,7 +5,7 @@ use Prim.Native.Nat.{ℕ}
 use Rattle.text.specs.Json.{Members, named, string}
 use Rattle.chars.specs.Written.{written_text}
 use Rattle.text.specs.Printing.{quoted, printed, printed_members, printed_more}
-use Rattle.syntax.specs.Policy.{Effect, Allow, Deny, text, Row, Statement, Policy}
+use Rattle.syntax.specs.Policy.{Effect, Allow, Deny, text, Statement, Policy}
 use Rattle.held.specs.Held.{effect_number}
 use Rattle.syntax.specs.Words.{version_word, edition_word, statement_word, sid_word, effect_word, action_word, resource_word}
 use Rattle.writing.specs.WrittenForm.{list_of, action_tree, resource_tree, effect_name, sid_member, condition_member}

@@ -5,7 +5,7 @@ use mathlib.Core.List.{List, [], ◌∷◌, ◌++◌, append_assoc}
 use Prim.Native.Nat.{ℕ}
 use lib.Dec.{eqb}
 use Rattle.chars.specs.Base.{pick}
-use Rattle.text.specs.Json.{Json, Members}
+use Rattle.text.specs.Json.{Json}
 use Rattle.chars.specs.Written.{written_text}
 use Rattle.text.specs.Printing.{quoted, printed, printed_members, printed_more}
 use Rattle.syntax.specs.Policy.{Operator, StringEquals, StringLike, NumericLessThanEquals, Row}

@@ -1,11 +1,11 @@
 -- What is added at one place: a character, a comma, an escape.
-use mathlib.Core.Path.{◌≡◌, refl, sym, ap, ◌∙◌, subst}
+use mathlib.Core.Path.{◌≡◌, refl, sym, subst}
 use mathlib.Core.Bool.{Bool, true, false, not, ◌&&◌}
 use mathlib.Core.List.{List, [], ◌∷◌, ◌++◌}
-use Prim.Native.Nat.{ℕ, zero, suc, ◌+◌, ◌≤◌, ◌<◌}
+use Prim.Native.Nat.{ℕ, zero, suc, ◌≤◌, ◌<◌}
 use native.Mathlib.Omega.{arith}
 use lib.Dec.{eqb, leb, ltb}
-use lib.ListN.{length, length-append}
+use lib.ListN.{length}
 use borrow.Author.Tests.{eq-eqb, ne_eqb, ltb-true, eqb-false, not-true}
 use Rattle.chars.specs.Base.{pick, one_of}
 use Rattle.chars.specs.Written.{coded, written}
@@ -14,7 +14,7 @@ use Rattle.chars.proofs.Laws.Written.Forms.{written_bare}
 use Rattle.writing.specs.WrittenForm.{is_escaped}
 use Rattle.writing.specs.Showing.{Adds}
 use Rattle.writing.specs.Bytes.{between}
-use Rattle.writing.proofs.Laws.Showing.{adds_none, adds_as}
+use Rattle.writing.proofs.Laws.Showing.{adds_none}
 
 -- ---- a character takes some bytes
 

@@ -2,10 +2,9 @@
 use mathlib.Core.Path.{◌≡◌, refl, sym, ap, ◌∙◌, subst}
 use mathlib.Core.Bool.{Bool, true, false}
 use mathlib.Core.List.{List, [], ◌∷◌, ◌++◌, append-nil, append_assoc}
-use Prim.Native.Nat.{ℕ, zero, suc, ◌+◌, ◌-◌, ◌*◌, ◌/◌, ◌%◌, ◌≤◌, ◌<◌}
-use native.Mathlib.Nat.{mod-lt}
+use Prim.Native.Nat.{ℕ, zero, suc, ◌+◌, ◌-◌, ◌/◌, ◌%◌, ◌≤◌, ◌<◌}
 use native.Mathlib.Omega.{arith}
-use lib.ListN.{length, get_or}
+use lib.ListN.{length}
 use borrow.Author.Tests.{eq-eqb, ne_eqb, lt-ltb, le-ltb}
 use Rattle.chars.specs.Written.{written, written_text}
 use Rattle.text.specs.Printing.{quoted}
@@ -16,7 +15,7 @@ use Rattle.syntax.specs.Words.{string_equals_word, string_like_word, numeric_les
 use Rattle.writing.specs.WrittenForm.{bare, is_escaped, spelling, digits_up_to}
 use Rattle.writing.specs.Showing.{Adds}
 use Rattle.writing.specs.Bytes.{name, operator_name, ending, turning, sid_bytes, effect_bytes, head_bytes}
-use Rattle.writing.proofs.Laws.Showing.{adds_none, adds_as}
+use Rattle.writing.proofs.Laws.Showing.{adds_none}
 
 -- ---- symbols
 

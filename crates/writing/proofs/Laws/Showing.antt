@@ -8,8 +8,8 @@ use mathlib.Core.List.{List, [], ◌∷◌, ◌++◌, append-nil, append_assoc}
 use Prim.Native.Nat.{ℕ, suc, ◌+◌, ◌≤◌, ◌<◌}
 use native.Mathlib.Omega.{arith}
 use native.Mathlib.Decide.{dec_lt}
-use lib.ListN.{length, set, take, drop, length-append, length-set}
-use lib.Seq.{sets, sets-eq, length-sets, set-append_seam, take-append_seam, drop-append-add}
+use lib.ListN.{length, set, take, drop, length-append}
+use lib.Seq.{sets, sets-eq, length-sets, take-append_seam}
 use Rattle.chars.specs.Putting.{put_at}
 use Rattle.chars.proofs.Laws.Putting.{put_fit, put_none}
 use Rattle.syntax.specs.Limits.{result_bytes}

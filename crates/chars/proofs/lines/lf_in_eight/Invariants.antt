@@ -1,12 +1,9 @@
 -- As long as none was found, the line ends where it did.
-use mathlib.Core.Path.{◌≡◌, ap, ◌∙◌}
+use mathlib.Core.Path.{◌≡◌}
 use mathlib.Core.Bool.{false}
-use Prim.Native.Nat.{ℕ, ◌≤◌, ◌-◌, ◌+◌}
-use native.Mathlib.Omega.{arith}
+use Prim.Native.Nat.{◌≤◌, ◌-◌, ◌+◌}
 use lib.ListN.{drop}
 use Rattle.chars.specs.Lines.{unbroken}
-use Rattle.chars.proofs.Laws.Lines.Found.{eight_next}
-use borrow.Author.Rules.{rules}
 use Rattle.chars.proofs.lines.lf_in_eight.Given as goal
 
 abbrev pub invariant-loop-j : goal.invariant-loop-j

@@ -1,9 +1,6 @@
 -- No LF stood at any place passed.
-use mathlib.Core.Path.{◌≡◌, sym, ◌∙◌}
-use Prim.Native.Nat.{◌≤◌, ◌+◌, ◌-◌}
+use mathlib.Core.Path.{sym, ◌∙◌}
 use native.Mathlib.Omega.{arith}
-use lib.ListN.{length, drop}
-use Rattle.chars.specs.Lines.{unbroken}
 use Rattle.chars.proofs.Laws.Lines.Found.{unbroken_lf, unbroken_more, unbroken_end}
 use Rattle.chars.proofs.lines.line_end.Goals as goal
 

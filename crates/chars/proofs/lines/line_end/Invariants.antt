@@ -1,10 +1,8 @@
 -- No LF stood at any place passed.
-use mathlib.Core.Path.{◌≡◌, sym, ◌∙◌}
+use mathlib.Core.Path.{◌≡◌}
 use Prim.Native.Nat.{◌≤◌, ◌+◌, ◌-◌}
-use native.Mathlib.Omega.{arith}
 use lib.ListN.{length, drop}
 use Rattle.chars.specs.Lines.{unbroken}
-use Rattle.chars.proofs.Laws.Lines.Found.{unbroken_lf, unbroken_more, unbroken_end}
 use Rattle.chars.proofs.lines.line_end.Given as goal
 
 abbrev pub invariant-loop-i : goal.invariant-loop-i

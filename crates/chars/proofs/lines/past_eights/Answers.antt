@@ -1,9 +1,6 @@
 -- Every eight passed have no LF.
-use mathlib.Core.Path.{◌≡◌, refl, ◌∙◌}
-use Prim.Native.Nat.{◌≤◌, ◌-◌, ◌+◌}
+use mathlib.Core.Path.{refl, ◌∙◌}
 use native.Mathlib.Omega.{arith}
-use lib.ListN.{length, drop}
-use Rattle.chars.specs.Lines.{unbroken}
 use Rattle.chars.proofs.lines.past_eights.Goals as goal
 
 pub loop-i-init : goal.loop-i-init

@@ -1,7 +1,6 @@
 -- Every eight passed have no LF.
-use mathlib.Core.Path.{◌≡◌, refl, ◌∙◌}
+use mathlib.Core.Path.{◌≡◌}
 use Prim.Native.Nat.{◌≤◌, ◌-◌, ◌+◌}
-use native.Mathlib.Omega.{arith}
 use lib.ListN.{length, drop}
 use Rattle.chars.specs.Lines.{unbroken}
 use Rattle.chars.proofs.lines.past_eights.Given as goal

@@ -1,11 +1,8 @@
 -- Each turn lays one character more over the run, and goes on behind its bytes.
 use mathlib.Core.List.{List}
-use Prim.Native.Nat.{ℕ, ◌-◌, ◌+◌}
-use native.Mathlib.Omega.{arith}
+use Prim.Native.Nat.{ℕ, ◌-◌}
 use lib.ListN.{length}
 use Rattle.chars.specs.Steps.{Sofar}
-use Rattle.chars.proofs.Laws.Strings.Runs.{rest_some, sofar_first, sofar_length, sofar_ascii, sofar_char}
-use Rattle.chars.proofs.Laws.Strings.Runs.{sofar_lone, sofar_count, sofar_short, sofar_at}
 use Rattle.chars.proofs.strings.decode.Given as goal
 
 abbrev pub invariant-loop-i : goal.invariant-loop-i

@@ -1,9 +1,5 @@
 -- Each turn puts one byte more.
-use mathlib.Core.Path.{◌≡◌}
-use Prim.Native.Nat.{ℕ, ◌≤◌, ◌<◌, ◌-◌, ◌+◌}
 use native.Mathlib.Omega.{arith}
-use lib.ListN.{length}
-use Rattle.chars.specs.Steps.{Moves}
 use Rattle.chars.proofs.Laws.Strings.Runs.{moves_none, moves_byte, moves_at}
 use borrow.Author.Rules.{rules}
 use Rattle.chars.proofs.strings.put_eight.Goals as goal

@@ -1,10 +1,5 @@
 -- Every block put was plain, and had room.
-use mathlib.Core.Path.{◌≡◌, sym}
-use Prim.Native.Nat.{ℕ, ◌≤◌, ◌<◌, ◌-◌, ◌+◌}
 use native.Mathlib.Omega.{arith}
-use lib.ListN.{length}
-use borrow.Author.Tests.{not-false}
-use Rattle.chars.specs.Steps.{Moves}
 use Rattle.chars.proofs.Laws.Strings.Runs.{moves_none, moves_then}
 use Rattle.chars.proofs.strings.put_eights.Goals as goal
 

@@ -1,11 +1,8 @@
 -- Every block put was plain, and had room.
-use mathlib.Core.Path.{◌≡◌, sym}
-use Prim.Native.Nat.{ℕ, ◌≤◌, ◌<◌, ◌-◌, ◌+◌}
-use native.Mathlib.Omega.{arith}
+use mathlib.Core.Path.{◌≡◌}
+use Prim.Native.Nat.{◌-◌, ◌+◌}
 use lib.ListN.{length}
-use borrow.Author.Tests.{not-false}
 use Rattle.chars.specs.Steps.{Moves}
-use Rattle.chars.proofs.Laws.Strings.Runs.{moves_none, moves_then}
 use Rattle.chars.proofs.strings.put_eights.Given as goal
 
 abbrev pub invariant-loop-i : goal.invariant-loop-i

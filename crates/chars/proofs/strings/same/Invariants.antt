@@ -1,11 +1,7 @@
 -- Each turn strikes one character off the text and one byte off w.
-use mathlib.Core.Path.{refl, sym, ◌∙◌}
 use Prim.Native.Nat.{◌-◌}
-use native.Mathlib.Omega.{arith}
 use lib.ListN.{length}
 use Rattle.chars.specs.Steps.{Match}
-use Rattle.chars.proofs.Laws.Strings.Runs.{rest_some, ascii_step, ascii_past, match_lone}
-use Rattle.chars.proofs.Laws.Strings.Runs.{match_short, match_other, match_next, match_end}
 use Rattle.chars.proofs.strings.same.Given as goal
 
 abbrev pub invariant-loop-i : goal.invariant-loop-i

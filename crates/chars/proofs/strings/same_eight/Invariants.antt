@@ -2,12 +2,8 @@
 use mathlib.Core.Path.{◌≡◌}
 use mathlib.Core.Bool.{true}
 use Prim.Native.Nat.{ℕ, ◌≤◌, ◌<◌, ◌-◌, ◌+◌}
-use native.Mathlib.Omega.{arith}
 use lib.ListN.{get_or}
-use borrow.Author.Tests.{eqb-true}
 use Rattle.chars.specs.Steps.{Plain}
-use Rattle.chars.proofs.Laws.Tests.{each_true, each_before}
-use borrow.Author.Rules.{rules}
 use Rattle.chars.proofs.strings.same_eight.Given as goal
 
 abbrev pub invariant-loop-j : goal.invariant-loop-j

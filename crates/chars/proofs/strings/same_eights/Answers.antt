@@ -1,9 +1,5 @@
 -- Every block passed is plain, and the same in both.
-use Prim.Native.Nat.{ℕ, ◌≤◌, ◌-◌}
 use native.Mathlib.Omega.{arith}
-use lib.ListN.{length}
-use borrow.Author.Tests.{not-false}
-use Rattle.chars.specs.Steps.{Match}
 use Rattle.chars.proofs.Laws.Strings.Runs.{match_start, match_eight}
 use Rattle.chars.proofs.strings.same_eights.Goals as goal
 

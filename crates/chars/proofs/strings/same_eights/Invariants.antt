@@ -1,10 +1,7 @@
 -- Every block passed is plain, and the same in both.
-use Prim.Native.Nat.{ℕ, ◌≤◌, ◌-◌}
-use native.Mathlib.Omega.{arith}
+use Prim.Native.Nat.{◌≤◌, ◌-◌}
 use lib.ListN.{length}
-use borrow.Author.Tests.{not-false}
 use Rattle.chars.specs.Steps.{Match}
-use Rattle.chars.proofs.Laws.Strings.Runs.{match_start, match_eight}
 use Rattle.chars.proofs.strings.same_eights.Given as goal
 
 abbrev pub invariant-loop-i : goal.invariant-loop-i

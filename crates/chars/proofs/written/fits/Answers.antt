@@ -1,8 +1,6 @@
 -- Each turn takes a character's bytes off the room that is left.
-use Prim.Native.Nat.{◌-◌}
 use native.Mathlib.Omega.{arith}
-use lib.ListN.{length}
-use Rattle.chars.proofs.Laws.Written.Runs.{Fitting, fitting_start, fitting_next, fitting_short, fitting_end}
+use Rattle.chars.proofs.Laws.Written.Runs.{fitting_start, fitting_next, fitting_short, fitting_end}
 use Rattle.chars.proofs.written.fits.Goals as goal
 
 pub loop-i-init : goal.loop-i-init

@@ -1,8 +1,7 @@
 -- Each turn takes a character's bytes off the room that is left.
 use Prim.Native.Nat.{◌-◌}
-use native.Mathlib.Omega.{arith}
 use lib.ListN.{length}
-use Rattle.chars.proofs.Laws.Written.Runs.{Fitting, fitting_start, fitting_next, fitting_short, fitting_end}
+use Rattle.chars.proofs.Laws.Written.Runs.{Fitting}
 use Rattle.chars.proofs.written.fits.Given as goal
 
 abbrev pub invariant-loop-i : goal.invariant-loop-i

@@ -1,10 +1,8 @@
 -- Each turn puts one character behind those that are put.
 use mathlib.Core.Path.{sym, ◌∙◌}
-use Prim.Native.Nat.{◌-◌}
 use native.Mathlib.Omega.{arith}
-use lib.ListN.{length}
-use Rattle.chars.proofs.Laws.Written.Runs.{Sofar, sofar_start, sofar_length, sofar_next, sofar_end, write_none}
-use borrow.Author.Tests.{leb-true, leb-false, not-true, not-false}
+use Rattle.chars.proofs.Laws.Written.Runs.{sofar_start, sofar_length, sofar_next, sofar_end, write_none}
+use borrow.Author.Tests.{leb-true, leb-false}
 use Rattle.chars.proofs.written.write_text.Goals as goal
 
 pub returns-then-not-fits : goal.returns-then-not-fits

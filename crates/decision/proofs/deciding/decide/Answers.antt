@@ -2,16 +2,13 @@
 -- matches is kept; of a statement's Action entries passed none matches. Whichever policy and request lie in the runs
 -- are those decided on.
 use mathlib.Core.Path.{sym, ap, ◌∙◌, subst}
-use Prim.Native.Nat.{◌+◌, ◌-◌}
+use Prim.Native.Nat.{◌+◌}
 use native.Mathlib.Omega.{arith}
 use Rattle.held.proofs.Laws.Parts.{statement_lying, statement_inside, statement_effect, actions_lie, request_action}
 use Rattle.held.proofs.Laws.Parts.{action_lies, text_value}
-use borrow.Author.Tests.{not-true, not-false}
 use Rattle.syntax.specs.Policy.{text}
 use Rattle.decision.specs.Matching.{matches}
-use Rattle.held.specs.Held.{held_text, held_statement, held, held_request, any_of}
-use Rattle.held.specs.Lying.{Lying}
-use Rattle.decision.specs.Decision.{decide}
+use Rattle.held.specs.Held.{held_statement, any_of}
 use Rattle.decision.specs.declared.deciding.Decision.TheVariants.{Denied}
 use Rattle.held.proofs.Laws.Runs.{lies_inside}
 use Rattle.held.proofs.Laws.RunsStatement.{policy_inside, policy_count, policy_lies}
@@ -156,20 +153,20 @@ statements-preserved c =
     (λ s z ss.
     let v = c.entries.invariant (lying s z) lies_q in
     elim c.if-j-m.branch [
-      then-j-m t ↦
-        told_passed a i s ss q kept t.matching-is
-        (unmatched s q (none_is (λ u. matches u q.action) v (omega (arith, t.if-j-m.true))))
-    | else-j-m+then-matches_at+then-not-holds_behind t ↦
-        let found = some_is (λ u. matches u q.action) v (coming_more v t.if-j-m.false)
-        (λ x l. t.matches_at.ensures x q.action l (action_lies q m)) t.if-matches_at.true in
-        told_passed a i s ss q kept t.matching-is
-        (matched s q found ∙ sym (t.holds_behind.ensures s q z m) ∙ t.if-not-holds_behind.true)
-    | else-j-m+then-matches_at+else-not-holds_behind+else-policy-p-eq2 t ↦
-        let found = some_is (λ u. matches u q.action) v (coming_more v t.if-j-m.false)
-        (λ x l. t.matches_at.ensures x q.action l (action_lies q m)) t.if-matches_at.true in
-        told_allowed a i s ss q kept t.matching-is
-        (matched s q found ∙ sym (t.holds_behind.ensures s q z m) ∙ t.if-not-holds_behind.false)
-        (is_allow s.effect (statement_effect s z) t.if-policy-p-eq2.false)
+      | then-j-m t ↦
+          told_passed a i s ss q kept t.matching-is
+          (unmatched s q (none_is (λ u. matches u q.action) v (omega (arith, t.if-j-m.true))))
+      | else-j-m+then-matches_at+then-not-holds_behind t ↦
+          let found = some_is (λ u. matches u q.action) v (coming_more v t.if-j-m.false)
+          (λ x l. t.matches_at.ensures x q.action l (action_lies q m)) t.if-matches_at.true in
+          told_passed a i s ss q kept t.matching-is
+          (matched s q found ∙ sym (t.holds_behind.ensures s q z m) ∙ t.if-not-holds_behind.true)
+      | else-j-m+then-matches_at+else-not-holds_behind+else-policy-p-eq2 t ↦
+          let found = some_is (λ u. matches u q.action) v (coming_more v t.if-j-m.false)
+          (λ x l. t.matches_at.ensures x q.action l (action_lies q m)) t.if-matches_at.true in
+          told_allowed a i s ss q kept t.matching-is
+          (matched s q found ∙ sym (t.holds_behind.ensures s q z m) ∙ t.if-not-holds_behind.false)
+          (is_allow s.effect (statement_effect s z) t.if-policy-p-eq2.false)
     ])
 
 pub returns-then-denied-ne0 : goal.returns-then-denied-ne0
@@ -177,18 +174,18 @@ returns-then-denied-ne0 c =
     λ x q l m.
     let w = c.statements.invariant (lying x l) (lying q m) in
     elim c.if-i-n.branch [
-      then-i-n t ↦ absurd (c.if-denied-ne0.true t.denied-is)
-    | else-i-n+else-j-m+then-matches_at+else-not-holds_behind+then-policy-p-eq2 t ↦
-        let y = coming_now w (coming_more w t.if-i-n.false) in
-        let s = y.head in
-        let v = t.entries.invariant (lying s y.lies) (lying q m) in
-        let found = some_is (λ u. matches u q.action) v (coming_more v t.if-j-m.false)
-        (λ x l. t.matches_at.ensures x q.action l (action_lies q m)) t.if-matches_at.true in
-        ap Denied t.denied-is
-        ∙ told_denied c.statements.allowed c.statements.i s y.tail q
-        (matched s q found ∙ sym (t.holds_behind.ensures s q y.lies m) ∙ t.if-not-holds_behind.false)
-        (is_deny s.effect (statement_effect s y.lies) t.if-policy-p-eq2.true)
-        ∙ y.same
+      | then-i-n t ↦ absurd (c.if-denied-ne0.true t.denied-is)
+      | else-i-n+else-j-m+then-matches_at+else-not-holds_behind+then-policy-p-eq2 t ↦
+          let y = coming_now w (coming_more w t.if-i-n.false) in
+          let s = y.head in
+          let v = t.entries.invariant (lying s y.lies) (lying q m) in
+          let found = some_is (λ u. matches u q.action) v (coming_more v t.if-j-m.false)
+          (λ x l. t.matches_at.ensures x q.action l (action_lies q m)) t.if-matches_at.true in
+          ap Denied t.denied-is
+          ∙ told_denied c.statements.allowed c.statements.i s y.tail q
+          (matched s q found ∙ sym (t.holds_behind.ensures s q y.lies m) ∙ t.if-not-holds_behind.false)
+          (is_deny s.effect (statement_effect s y.lies) t.if-policy-p-eq2.true)
+          ∙ y.same
     ]
 
 pub returns-then-allowed-ne0 : goal.returns-then-allowed-ne0
@@ -196,11 +193,11 @@ returns-then-allowed-ne0 c =
     λ x q l m.
     let w = c.statements.invariant (lying x l) (lying q m) in
     elim c.if-i-n.branch [
-      then-i-n t ↦
-        left_allowed (c.statements.i + 1) q c.statements.allowed c.if-allowed-ne0.true
-        ∙ coming_end w (omega (arith, t.if-i-n.true))
-    | else-i-n+else-j-m+then-matches_at+else-not-holds_behind+then-policy-p-eq2 t ↦
-        absurd (omega (arith, t.denied-is, c.if-denied-ne0.false))
+      | then-i-n t ↦
+          left_allowed (c.statements.i + 1) q c.statements.allowed c.if-allowed-ne0.true
+          ∙ coming_end w (omega (arith, t.if-i-n.true))
+      | else-i-n+else-j-m+then-matches_at+else-not-holds_behind+then-policy-p-eq2 t ↦
+          absurd (omega (arith, t.denied-is, c.if-denied-ne0.false))
     ]
 
 pub returns : goal.returns
@@ -208,9 +205,9 @@ returns c =
     λ x q l m.
     let w = c.statements.invariant (lying x l) (lying q m) in
     elim c.if-i-n.branch [
-      then-i-n t ↦
-        left_implicit (c.statements.i + 1) q c.statements.allowed c.if-allowed-ne0.false
-        ∙ coming_end w (omega (arith, t.if-i-n.true))
-    | else-i-n+else-j-m+then-matches_at+else-not-holds_behind+then-policy-p-eq2 t ↦
-        absurd (omega (arith, t.denied-is, c.if-denied-ne0.false))
+      | then-i-n t ↦
+          left_implicit (c.statements.i + 1) q c.statements.allowed c.if-allowed-ne0.false
+          ∙ coming_end w (omega (arith, t.if-i-n.true))
+      | else-i-n+else-j-m+then-matches_at+else-not-holds_behind+then-policy-p-eq2 t ↦
+          absurd (omega (arith, t.denied-is, c.if-denied-ne0.false))
     ]

@@ -1,26 +1,13 @@
 -- The first Deny that matches ends the walk. Of the statements passed none is such a Deny, and the first Allow that
 -- matches is kept; of a statement's Action entries passed none matches. Whichever policy and request lie in the runs
 -- are those decided on.
-use mathlib.Core.Path.{sym, ap, ◌∙◌, subst}
-use mathlib.Core.Logic.{⊎_elim}
 use Prim.Native.Nat.{◌+◌, ◌-◌}
-use native.Mathlib.Omega.{arith}
-use Rattle.held.proofs.Laws.Parts.{statement_lying, statement_inside, statement_effect, actions_lie, request_action}
-use Rattle.held.proofs.Laws.Parts.{action_lies, text_value}
-use borrow.Author.Tests.{not-true, not-false}
-use Rattle.syntax.specs.Policy.{text}
 use Rattle.decision.specs.Matching.{matches}
 use Rattle.held.specs.Held.{held_text, held_statement, held, held_request, any_of}
 use Rattle.held.specs.Lying.{Lying}
 use Rattle.decision.specs.Decision.{decide}
-use Rattle.decision.specs.declared.deciding.Decision.TheVariants.{Denied}
-use Rattle.held.proofs.Laws.Runs.{lies_inside}
-use Rattle.held.proofs.Laws.RunsStatement.{policy_inside, policy_count, policy_lies}
-use Rattle.held.proofs.Laws.Coming.{Coming, coming, coming_list, lying, coming_more, coming_one}
-use Rattle.held.proofs.Laws.Coming.{coming_now, coming_next, coming_end, any_on, some_is, none_is}
-use Rattle.decision.proofs.Laws.DecidingOrder.{unmatched, matched, is_deny, is_allow, told, told_all}
-use Rattle.decision.proofs.Laws.DecidingOrder.{told_passed}
-use Rattle.decision.proofs.Laws.DecidingOrder.{told_allowed, told_denied, left_allowed, left_implicit}
+use Rattle.held.proofs.Laws.Coming.{Coming}
+use Rattle.decision.proofs.Laws.DecidingOrder.{told}
 use Rattle.decision.proofs.deciding.decide.Given as goal
 
 abbrev pub invariant-entries : goal.invariant-entries

@@ -3,7 +3,6 @@ use mathlib.Core.Path.{sym, ◌∙◌}
 use Rattle.held.proofs.Laws.Parts.{statement_lying, actions_values, resources_lie, resources_texts}
 use Rattle.held.proofs.Laws.Parts.{resources_values, rows_lie, statement_rows, request_action, resource_lies}
 use Rattle.held.proofs.Laws.Parts.{request_resource, contexts_lie, request_contexts, text_value}
-use borrow.Author.Tests.{not-true, not-false}
 use Rattle.decision.proofs.Laws.DecidingStatement.{behind_resource, behind_rows}
 use Rattle.decision.proofs.deciding.failing_behind.Goals as goal
 
@@ -18,11 +17,10 @@ pub past_value-t-requires : goal.past_value-t-requires
 past_value-t-requires c = text_value (request_action c.requires.1)
 
 pub some_matches-requires : goal.some_matches-requires
-some_matches-requires c =
-    (
-      resources_texts c.requires.0 c.behind_label.ensures c.list-l.ensures,
-      request_resource c.requires.1 c.past_value-t.ensures,
-    )
+some_matches-requires c = (
+  resources_texts c.requires.0 c.behind_label.ensures c.list-l.ensures,
+  request_resource c.requires.1 c.past_value-t.ensures,
+)
 
 pub returns-then-not-some_matches : goal.returns-then-not-some_matches
 returns-then-not-some_matches c =
@@ -41,12 +39,11 @@ past_value-contexts-requires c =
     text_value (request_resource c.requires.1 c.past_value-t.ensures)
 
 pub failing_row-requires : goal.failing_row-requires
-failing_row-requires c =
-    (
-      statement_rows c.requires.0 c.behind_label.ensures c.list-l.ensures
-          c.list-w.ensures,
-      request_contexts c.requires.1 c.past_value-t.ensures c.past_value-contexts.ensures,
-    )
+failing_row-requires c = (
+  statement_rows c.requires.0 c.behind_label.ensures c.list-l.ensures
+      c.list-w.ensures,
+  request_contexts c.requires.1 c.past_value-t.ensures c.past_value-contexts.ensures,
+)
 
 pub returns : goal.returns
 returns c =

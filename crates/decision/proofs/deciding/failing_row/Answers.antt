@@ -1,13 +1,11 @@
 -- Each row passed holds; whichever rows lie in the list are the ones tried.
 use mathlib.Core.Path.{ap, ◌∙◌}
-use Prim.Native.Nat.{◌+◌, ◌-◌}
+use Prim.Native.Nat.{◌+◌}
 use native.Mathlib.Omega.{arith}
-use Rattle.held.specs.Held.{held_row, held_list, held_context}
-use Rattle.held.specs.Lying.{Lying}
 use Rattle.decision.specs.Decision.{rows_from}
 use Rattle.decision.specs.Deciding.{failing_of}
 use Rattle.held.proofs.Laws.Runs.{lies_inside}
-use Rattle.held.proofs.Laws.Coming.{Coming, coming_list, lying, coming_lying, coming_now, coming_next}
+use Rattle.held.proofs.Laws.Coming.{coming_list, lying, coming_lying, coming_now, coming_next}
 use Rattle.held.proofs.Laws.Coming.{coming_end}
 use Rattle.decision.proofs.Laws.DecidingRows.{row_fails, row_passed, rows_over_lem}
 use Rattle.decision.proofs.deciding.failing_row.Goals as goal

@@ -1,7 +1,6 @@
 -- The Action list lies behind the Sid, and the request's action at its beginning.
 use mathlib.Core.Path.{sym, ◌∙◌}
 use Rattle.held.proofs.Laws.Parts.{statement_lying, actions_lie, actions_texts, action_lies, request_action}
-use borrow.Author.Tests.{not-true, not-false}
 use Rattle.decision.proofs.Laws.DecidingStatement.{part_action, part_behind_lem}
 use Rattle.decision.proofs.deciding.first_failing.Goals as goal
 

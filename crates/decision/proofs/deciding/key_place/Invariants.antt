@@ -1,16 +1,9 @@
 -- None of the context entries passed has the key; whichever entries lie in the list are the ones compared.
-use mathlib.Core.Path.{sym, ◌∙◌}
 use Prim.Native.Nat.{◌-◌, ◌<◌}
-use native.Mathlib.Omega.{arith}
 use Rattle.held.specs.Held.{held_text, held_list, held_context}
 use Rattle.held.specs.Lying.{Lying}
-use Rattle.held.proofs.Laws.Parts.{context_lying, key_lying, key_lies, value_lying, context_passed}
 use Rattle.decision.specs.Decision.{value_at}
-use Rattle.held.proofs.Laws.Runs.{lies_inside}
-use Rattle.held.proofs.Laws.Requests.Lying.{context_inside}
-use Rattle.held.proofs.Laws.Coming.{Coming, coming_list, lying, coming_lying, coming_now, coming_next}
-use Rattle.held.proofs.Laws.Coming.{coming_end}
-use Rattle.decision.proofs.Laws.DecidingContexts.{value_on, finds_here, finds_none}
+use Rattle.held.proofs.Laws.Coming.{Coming}
 use Rattle.decision.proofs.deciding.key_place.Given as goal
 
 abbrev pub invariant-loop-i : goal.invariant-loop-i

@@ -4,7 +4,6 @@ use mathlib.Core.Bool.{true, false}
 use native.Mathlib.Omega.{arith}
 use Rattle.held.proofs.Laws.Parts.{context_lying, row_inside, row_operator, row_key_lies, entries_lie, row_lying}
 use Rattle.held.proofs.Laws.Parts.{row_key_lying, row_operating, entries_lying}
-use borrow.Author.Tests.{not-true, not-false}
 use Rattle.decision.specs.Decision.{value_at, row_result}
 use Rattle.decision.proofs.Laws.DecidingRows.{something, found_lying}
 use Rattle.decision.proofs.Laws.DecidingRows.{found_type, found_inside, found_lies, found_value_lying}

@@ -1,16 +1,9 @@
 -- None of the entries passed matches; whichever entries lie in the list are the ones tried.
-use mathlib.Core.Path.{sym, ◌∙◌}
-use mathlib.Core.Bool.{true}
 use Prim.Native.Nat.{◌-◌}
-use native.Mathlib.Omega.{arith}
-use Rattle.syntax.specs.Policy.{text}
-use Rattle.held.proofs.Laws.Parts.{text_value}
 use Rattle.decision.specs.Matching.{matches}
 use Rattle.held.specs.Held.{held_text, held_list, any_of}
 use Rattle.held.specs.Lying.{Lying}
-use Rattle.held.proofs.Laws.Runs.{lies_inside}
-use Rattle.held.proofs.Laws.Coming.{Coming, coming_list, lying, coming_lying, coming_decided}
-use Rattle.held.proofs.Laws.Coming.{coming_next, coming_end, any_here, any_on}
+use Rattle.held.proofs.Laws.Coming.{Coming}
 use Rattle.decision.proofs.deciding.some_matches.Given as goal
 
 abbrev pub invariant-loop-i : goal.invariant-loop-i

@@ -1,15 +1,10 @@
 -- None of the entries passed meets the value; whichever entries lie in the list are the ones tried.
-use mathlib.Core.Path.{sym, ◌∙◌}
-use mathlib.Core.Bool.{true}
 use Prim.Native.Nat.{◌-◌}
-use native.Mathlib.Omega.{arith}
 use Rattle.held.specs.Held.{held_value, held_list, any_of}
 use Rattle.held.specs.Lying.{Lying}
 use Rattle.decision.specs.Decision.{meets}
 use Rattle.held.specs.Places.{Operating}
-use Rattle.held.proofs.Laws.Runs.{lies_inside}
-use Rattle.held.proofs.Laws.Coming.{Coming, coming_list, lying, coming_lying, coming_decided}
-use Rattle.held.proofs.Laws.Coming.{coming_next, coming_end, any_here, any_on}
+use Rattle.held.proofs.Laws.Coming.{Coming}
 use Rattle.decision.proofs.deciding.some_meets.Given as goal
 
 abbrev pub invariant-loop-i : goal.invariant-loop-i

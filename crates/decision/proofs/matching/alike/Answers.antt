@@ -1,10 +1,9 @@
 -- What was passed is no star, and the same in both.
-use mathlib.Core.Path.{◌≡◌, sym, ◌∙◌}
-use Prim.Native.Nat.{ℕ, ◌-◌}
+use mathlib.Core.Path.{◌≡◌}
+use Prim.Native.Nat.{ℕ}
 use native.Mathlib.Omega.{arith}
-use lib.ListN.{length, get_or}
+use lib.ListN.{get_or}
 use Rattle.syntax.specs.Policy.{star}
-use Rattle.decision.specs.Matching.{Alike}
 use Rattle.chars.proofs.Laws.Tests.{each_before}
 use Rattle.decision.proofs.matching.alike.Goals as goal
 

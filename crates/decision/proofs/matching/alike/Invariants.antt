@@ -1,11 +1,7 @@
 -- What was passed is no star, and the same in both.
-use mathlib.Core.Path.{◌≡◌, sym, ◌∙◌}
-use Prim.Native.Nat.{ℕ, ◌-◌}
-use native.Mathlib.Omega.{arith}
-use lib.ListN.{length, get_or}
-use Rattle.syntax.specs.Policy.{star}
+use Prim.Native.Nat.{◌-◌}
+use lib.ListN.{length}
 use Rattle.decision.specs.Matching.{Alike}
-use Rattle.chars.proofs.Laws.Tests.{each_before}
 use Rattle.decision.proofs.matching.alike.Given as goal
 
 abbrev pub invariant-loop-i : goal.invariant-loop-i

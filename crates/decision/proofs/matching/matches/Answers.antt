@@ -1,6 +1,6 @@
 -- Each look keeps what the places tell of the whole match, and leaves less to do.
 use mathlib.Core.Path.{sym, ◌∙◌}
-use Rattle.decision.proofs.Laws.MatchingPlaces.{Tracks, left, tracks_inside}
+use Rattle.decision.proofs.Laws.MatchingPlaces.{tracks_inside}
 use Rattle.decision.proofs.Laws.MatchingSteps.{next_tracks, next_less, next_answer, tracks_alike}
 use Rattle.decision.proofs.matching.matches.Goals as goal
 

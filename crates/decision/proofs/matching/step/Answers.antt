@@ -1,6 +1,6 @@
 -- Each answer is the definition at the tests passed on the way to it.
 use mathlib.Core.Path.{sym, ◌∙◌}
-use borrow.Author.Tests.{eq-eqb, ne_eqb, not-true, not-false}
+use borrow.Author.Tests.{eq-eqb, ne_eqb}
 use Rattle.decision.specs.Matching.{at_end, at_symbol, next}
 use Rattle.decision.proofs.matching.step.Goals as goal
 

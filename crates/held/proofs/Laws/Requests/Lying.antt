@@ -4,7 +4,6 @@ use mathlib.Core.List.{List}
 use Prim.Native.Nat.{ℕ, ◌+◌, ◌≤◌, ◌<◌}
 use native.Mathlib.Omega.{arith}
 use lib.ListN.{length, get_or}
-use Rattle.syntax.specs.Limits.{run_numbers}
 use Rattle.syntax.specs.Policy.{Value, text, number, Context}
 use Rattle.held.specs.Held.{held_value, type_number, held_context}
 use Rattle.held.specs.Lying.{Lies}

@@ -1,13 +1,11 @@
 -- None of the rows passed has the key; whichever rows lie at the places are the ones compared.
-use mathlib.Core.Path.{refl, sym, ◌∙◌}
 use mathlib.Core.Bool.{false}
 use Prim.Native.Nat.{◌-◌}
 use Rattle.syntax.specs.Policy.{Row}
 use Rattle.syntax.specs.PolicyLayout.{same_row}
 use Rattle.held.specs.Held.{held_row}
 use Rattle.held.specs.Lying.{Lies}
-use Rattle.held.proofs.Laws.RunsWalk.{Walks, walk_start, walk_lying, walk_next, walk_end}
-use Rattle.held.proofs.Laws.RunsWalk.{walk_found, like_any}
+use Rattle.held.proofs.Laws.RunsWalk.{Walks}
 use Rattle.held.proofs.runs.has_key.Given as goal
 
 abbrev pub invariant-loop-i : goal.invariant-loop-i

@@ -1,12 +1,8 @@
 -- None of the statements passed has the Sid; whichever statements lie at the places are the ones compared.
 use mathlib.Core.Path.{refl, sym, ◌∙◌}
 use mathlib.Core.Bool.{false}
-use Prim.Native.Nat.{◌-◌}
-use Rattle.syntax.specs.Policy.{Statement}
 use Rattle.syntax.specs.PolicyLayout.{same_sid}
-use Rattle.held.specs.Held.{held_statement}
-use Rattle.held.specs.Lying.{Lies}
-use Rattle.held.proofs.Laws.RunsWalk.{Walks, walk_start, walk_lying, walk_next, walk_end}
+use Rattle.held.proofs.Laws.RunsWalk.{walk_start, walk_lying, walk_next, walk_end}
 use Rattle.held.proofs.Laws.RunsWalk.{walk_found, like_any}
 use Rattle.held.proofs.runs.has_sid.Goals as goal
 

@@ -1,13 +1,7 @@
 -- None of the statements passed has the Sid; whichever statements lie at the places are the ones compared.
 use mathlib.Core.Path.{sym, ◌∙◌}
-use mathlib.Core.List.{List}
-use Prim.Native.Nat.{ℕ, ◌-◌}
 use native.Mathlib.Omega.{arith}
-use Rattle.syntax.specs.Policy.{Statement}
-use Rattle.syntax.specs.PolicyLayout.{same_sid}
-use Rattle.held.specs.Held.{held_statement}
-use Rattle.held.specs.Lying.{Lies, Placed}
-use Rattle.held.proofs.Laws.Placed.{Left, left_start, left_lying, left_found, left_next, left_end}
+use Rattle.held.proofs.Laws.Placed.{left_start, left_lying, left_found, left_next, left_end}
 use Rattle.held.proofs.runs.has_sid_at.Goals as goal
 
 pub loop-i-init : goal.loop-i-init

@@ -1,8 +1,6 @@
 -- Each turn passes one statement; whichever policy lies in the run is the one walked over.
-use Prim.Native.Nat.{◌-◌}
 use native.Mathlib.Omega.{arith}
-use Rattle.held.specs.Held.{held_statement, statement_over, statement_entries}
-use Rattle.held.proofs.Laws.RunsWalk.{Walks, walk_start, walk_lying, walk_turn, walk_few, walk_end}
+use Rattle.held.proofs.Laws.RunsWalk.{walk_start, walk_lying, walk_turn, walk_few, walk_end}
 use Rattle.held.proofs.Laws.RunsStatement.{statement_long, policy_inside, policy_count, policy_lies}
 use Rattle.held.proofs.Laws.RunsStatement.{policy_over}
 use Rattle.held.proofs.runs.over_limit.Goals as goal

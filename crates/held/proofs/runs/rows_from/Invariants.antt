@@ -1,10 +1,8 @@
 -- Each turn passes one row; whichever rows lie at the place are the ones walked over.
 use Prim.Native.Nat.{◌-◌}
-use native.Mathlib.Omega.{arith}
 use lib.ListN.{length}
 use Rattle.held.specs.Held.{held_row, row_over}
-use Rattle.held.proofs.Laws.Runs.{row_long}
-use Rattle.held.proofs.Laws.RunsWalk.{Walks, walk_start, walk_lying, walk_turn, walk_few, walk_end}
+use Rattle.held.proofs.Laws.RunsWalk.{Walks}
 use Rattle.held.proofs.runs.rows_from.Given as goal
 
 abbrev pub invariant-loop-i : goal.invariant-loop-i

@@ -1,9 +1,7 @@
 -- Each turn passes one value; whichever values lie at the place are the ones walked over.
-use mathlib.Core.Path.{refl}
 use Prim.Native.Nat.{◌-◌}
 use Rattle.held.specs.Held.{held_value, long_value}
-use Rattle.held.proofs.Laws.Runs.{or_either}
-use Rattle.held.proofs.Laws.RunsWalk.{Walks, walk_start, walk_lying, walk_next, walk_end}
+use Rattle.held.proofs.Laws.RunsWalk.{Walks}
 use Rattle.held.proofs.runs.values.Given as goal
 
 abbrev pub invariant-loop-i : goal.invariant-loop-i

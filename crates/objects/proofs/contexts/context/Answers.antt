@@ -5,11 +5,10 @@ use Rattle.objects.proofs.Laws.Contexts.{context_sorted, context_taken}
 use Rattle.objects.proofs.contexts.context.Goals as goal
 
 pub gathered-spans-requires : goal.gathered-spans-requires
-gathered-spans-requires c =
-    (
-      opened_inside (c.opened-i.ensures.found c.if-i-eq0.false),
-      record { room = omega (arith, c.if-run-at.false); bounded = c.requires.bounded },
-    )
+gathered-spans-requires c = (
+  opened_inside (c.opened-i.ensures.found c.if-i-eq0.false),
+  record { room = omega (arith, c.if-run-at.false); bounded = c.requires.bounded },
+)
 
 pub arranged-past-requires : goal.arranged-past-requires
 arranged-past-requires c =

@@ -5,7 +5,6 @@ use native.Mathlib.Omega.{arith}
 use Rattle.syntax.specs.Members.{then, differing}
 use Rattle.syntax.specs.RecordLayout.{context_of, same_context}
 use Rattle.held.specs.Held.{held_context}
-use Rattle.straight.specs.Taking.{TakenSeveral}
 use Rattle.objects.specs.Telling.{each_in}
 use Rattle.straight.proofs.Laws.Taking.{several_past}
 use Rattle.objects.proofs.Laws.Contexts.{none_taken, contexts_taken}

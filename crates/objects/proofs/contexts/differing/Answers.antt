@@ -1,14 +1,12 @@
 -- Each turn passes one entry behind those before it, whose key none of them has; behind the last the list ends.
-use mathlib.Core.Path.{◌≡◌, ◌∙◌}
-use Prim.Native.Nat.{◌-◌}
+use mathlib.Core.Path.{◌∙◌}
 use native.Mathlib.Omega.{arith}
-use lib.ListN.{length}
 use Rattle.syntax.specs.RecordLayout.{context_of}
 use Rattle.held.specs.Held.{held_context}
 use Rattle.straight.proofs.Laws.Taking.{takes_past}
-use Rattle.straight.proofs.Laws.Going.{Passed, going_size, going_fits, going_less}
+use Rattle.straight.proofs.Laws.Going.{going_size, going_fits, going_less}
 use Rattle.straight.proofs.Laws.Lists.{element_passed}
-use Rattle.straight.proofs.Laws.Differing.{Differing, differing_start, differing_roomy, differing_lying}
+use Rattle.straight.proofs.Laws.Differing.{differing_start, differing_roomy, differing_lying}
 use Rattle.straight.proofs.Laws.Differing.{differing_new, differing_more, differing_end}
 use Rattle.objects.proofs.Laws.Contexts.{entries, contexts_from, entries_mean}
 use Rattle.objects.proofs.contexts.differing.Goals as goal
@@ -45,9 +43,12 @@ returns-then-has_context_key c = (going_size entries.frame _ (c.loop-past.invari
 
 pub overflow_add-n : goal.overflow_add-n
 overflow_add-n c =
-    omega (arith, going_fits entries.frame _ (c.loop-past.invariant).going ((element_passed held_context context_of 2
-    (takes_past held_context 2 c.args.s.now c.loop-past.run c.context-h.new.run
-    c.loop-past.i c.loop-past.p context_of c.context-h.ensures c.in-Past.is))))
+    omega (
+      arith,
+      going_fits entries.frame _ (c.loop-past.invariant).going ((element_passed held_context context_of 2
+          (takes_past held_context 2 c.args.s.now c.loop-past.run c.context-h.new.run
+          c.loop-past.i c.loop-past.p context_of c.context-h.ensures c.in-Past.is))),
+    )
 
 pub parted-c-requires : goal.parted-c-requires
 parted-c-requires c = ((element_passed held_context context_of 2

@@ -1,11 +1,9 @@
 -- The text is held, and then tested where it lies.
 -- the call, and where the function starts
-use borrow.Author.Tests.{not-false}
 use Rattle.syntax.specs.Members.{characters_of}
 use Rattle.syntax.specs.RecordLayout.{is_key_name}
 use Rattle.held.specs.Held.{held_text}
 use Rattle.parts.proofs.Laws.Requests.Sole.{key_name_said}
-use Rattle.straight.specs.Taking.{Taken}
 use Rattle.straight.proofs.Laws.Taking.{takes_past, takes_wrong}
 use Rattle.straight.proofs.Laws.Texts.{text_first, text_within, text_formed}
 use Rattle.objects.proofs.contexts.key_name.Goals as goal

@@ -17,11 +17,10 @@ pub returns-then-run-p-lt2 : goal.returns-then-run-p-lt2
 returns-then-run-p-lt2 c = not_valued c.requires _ refl
 
 pub put_number-q-requires : goal.put_number-q-requires
-put_number-q-requires c =
-    (
-      record { room = omega (arith, c.requires.high, c.if-run-p-lt2.false); bounded = c.requires.bounded },
-      number_little c.requires _ c.number_in-k.ensures _ c.if-kind-eq1.false _ c.in-Is.is,
-    )
+put_number-q-requires c = (
+  record { room = omega (arith, c.requires.high, c.if-run-p-lt2.false); bounded = c.requires.bounded },
+  number_little c.requires _ c.number_in-k.ensures _ c.if-kind-eq1.false _ c.in-Is.is,
+)
 
 pub returns : goal.returns
 returns c =

@@ -1,19 +1,14 @@
 -- Each turn passes one statement behind those before it, whose Sid none of them has; behind the last the list ends.
-use mathlib.Core.Path.{◌≡◌, sym, ◌∙◌, subst}
+use mathlib.Core.Path.{sym, ◌∙◌, subst}
 use mathlib.Core.Logic.{inl, inr}
-use Prim.Native.Nat.{◌-◌}
 use native.Mathlib.Omega.{arith}
-use lib.ListN.{length}
-use Rattle.syntax.specs.PolicyLayout.{statement_of}
-use Rattle.held.specs.Held.{held_statement}
-use Rattle.straight.specs.Taking.{Taken}
 use Rattle.straight.proofs.Laws.Reads.{reads_inside}
 use Rattle.straight.proofs.Laws.Going.{going_fits, going_less}
 use Rattle.straight.proofs.Laws.Differing.{differing_roomy}
 use Rattle.objects.specs.declared.leaving.Counted.{Counted}
 use Rattle.objects.specs.Leaving.{Counts}
 use Rattle.objects.proofs.Laws.Policies.{statements}
-use Rattle.objects.proofs.Laws.Listed.{Listing, listing_start, listing_passed, listing_lying, listing_new}
+use Rattle.objects.proofs.Laws.Listed.{listing_start, listing_passed, listing_lying, listing_new}
 use Rattle.objects.proofs.Laws.Listed.{listing_more, listing_end, counts_left, next_stuck, states_past}
 use Rattle.objects.proofs.policies.listed.Goals as goal
 use Rattle.objects.proofs.policies.listed.Goals.{then-n-lt-FEW, else-n-lt-FEW}
@@ -45,15 +40,20 @@ shape_of-run-then-repeats c = (((states_past c.args.s.now c.loop-past.run c.stat
     c.loop-past.p c.statement-h.ensures c.in-Past.is)).laid.extends.size ∙ c.loop-past.invariant.differing.going.extends.size)
 
 pub returns-then-repeats : goal.returns-then-repeats
-returns-then-repeats c =
-    ((((states_past c.args.s.now c.loop-past.run c.statement-h.new.run c.loop-past.i
-    c.loop-past.p c.statement-h.ensures c.in-Past.is)).laid.extends.size ∙ c.loop-past.invariant.differing.going.extends.size), next_stuck c.loop-past.invariant.reached ((states_past c.args.s.now c.loop-past.run c.statement-h.new.run c.loop-past.i
-    c.loop-past.p c.statement-h.ensures c.in-Past.is)))
+returns-then-repeats c = (
+  (((states_past c.args.s.now c.loop-past.run c.statement-h.new.run c.loop-past.i
+      c.loop-past.p c.statement-h.ensures c.in-Past.is)).laid.extends.size ∙ c.loop-past.invariant.differing.going.extends.size),
+  next_stuck c.loop-past.invariant.reached ((states_past c.args.s.now c.loop-past.run c.statement-h.new.run c.loop-past.i
+      c.loop-past.p c.statement-h.ensures c.in-Past.is)),
+)
 
 pub overflow_add-n : goal.overflow_add-n
 overflow_add-n c =
-    omega (arith, going_fits statements.frame _ c.loop-past.invariant.differing.going (listing_passed c.loop-past.invariant ((states_past c.args.s.now c.loop-past.run c.statement-h.new.run c.loop-past.i
-    c.loop-past.p c.statement-h.ensures c.in-Past.is))))
+    omega (
+      arith,
+      going_fits statements.frame _ c.loop-past.invariant.differing.going (listing_passed c.loop-past.invariant ((states_past c.args.s.now c.loop-past.run c.statement-h.new.run c.loop-past.i
+          c.loop-past.p c.statement-h.ensures c.in-Past.is))),
+    )
 
 pub parted-c-requires : goal.parted-c-requires
 parted-c-requires c = reads_inside ((states_past c.args.s.now c.loop-past.run c.statement-h.new.run c.loop-past.i
@@ -87,6 +87,6 @@ loop-past-preserved c =
     let new = listing_new c.loop-past.invariant taken _ c.repeats.ensures c.if-repeats.false in
     let parted = c.parted-c.ensures.found c.if-c-eq0.false in
     elim c.if-n-lt-FEW.branch [
-      then-n-lt-FEW w ↦ listing_more c.loop-past.invariant taken new parted (inl (w.if-n-lt-FEW.true, w.places-is))
-    | else-n-lt-FEW w ↦ listing_more c.loop-past.invariant taken new parted (inr (w.if-n-lt-FEW.false, w.places-is))
+      | then-n-lt-FEW w ↦ listing_more c.loop-past.invariant taken new parted (inl (w.if-n-lt-FEW.true, w.places-is))
+      | else-n-lt-FEW w ↦ listing_more c.loop-past.invariant taken new parted (inr (w.if-n-lt-FEW.false, w.places-is))
     ]

@@ -11,13 +11,12 @@ pub returns-then-some-eq0 : goal.returns-then-some-eq0
 returns-then-some-eq0 c = λ x w. unless_none
 
 pub with_zero-all-requires : goal.with_zero-all-requires
-with_zero-all-requires c =
-    (
-      omega arith,
-      omega arith,
-      star_high c.requires.sorted c.if-spans-eq0.false
-          c.with_star-some.ensures c.if-some-eq0.false,
-    )
+with_zero-all-requires c = (
+  omega arith,
+  omega arith,
+  star_high c.requires.sorted c.if-spans-eq0.false
+      c.with_star-some.ensures c.if-some-eq0.false,
+)
 
 pub returns-then-all-eq0 : goal.returns-then-all-eq0
 returns-then-all-eq0 c = λ x w. unless_none

@@ -1,14 +1,10 @@
 -- Each turn passes one member; what it held is noted by its word.
-use mathlib.Core.Path.{◌≡◌, refl}
-use Prim.Native.Nat.{◌+◌, ◌-◌, ◌≤◌}
+use mathlib.Core.Path.{refl}
+use Prim.Native.Nat.{◌+◌, ◌≤◌}
 use native.Mathlib.Omega.{arith}
-use lib.ListN.{length, length-set}
-use Rattle.parts.specs.Slots.{word_at, Turn}
-use Rattle.straight.specs.Marks.{Named}
-use Rattle.objects.specs.Spans.{to_of}
-use Rattle.objects.specs.Gathering.{PartHeld}
+use lib.ListN.{length-set}
 use Rattle.objects.specs.Records.{records}
-use Rattle.objects.proofs.Laws.Gathering.{named_turn, part_held, Gathering, gathering_start, gathering_roomy}
+use Rattle.objects.proofs.Laws.Gathering.{named_turn, part_held, gathering_start, gathering_roomy}
 use Rattle.objects.proofs.Laws.Gathering.{gathering_none, gathering_end_inside, gathering_less, gathering_more}
 use Rattle.objects.proofs.Laws.Gathering.{gathering_end}
 use Rattle.objects.proofs.Laws.Records.{records_proper}
@@ -37,16 +33,22 @@ offset_bounds-spans-turn c = let h = (let z : c.in-Is.turn ≤ 5 = let t = ((nam
     c.in-Is.value c.which-w.ensures c.in-Is.is)).0 in omega (arith, t.to, records_proper.few) in z) in search rules
 
 pub bounds-spans-turn : goal.bounds-spans-turn
-bounds-spans-turn c = omega (arith, (let z : c.in-Is.turn ≤ 5 = let t = ((named_turn records.words c.args.s.now c.loop-turn.i c.which-w.result c.in-Is.turn
-    c.in-Is.value c.which-w.ensures c.in-Is.is)).0 in omega (arith, t.to, records_proper.few) in z), c.loop-turn.invariant.spans)
+bounds-spans-turn c = omega (
+  arith,
+  (let z : c.in-Is.turn ≤ 5 = let t = ((named_turn records.words c.args.s.now c.loop-turn.i c.which-w.result c.in-Is.turn
+      c.in-Is.value c.which-w.ensures c.in-Is.is)).0 in omega (arith, t.to, records_proper.few) in z),
+  c.loop-turn.invariant.spans,
+)
 
 pub returns-then-spans-turn-ne0 : goal.returns-then-spans-turn-ne0
 returns-then-spans-turn-ne0 c = gathering_none c.loop-turn.invariant refl
 
 pub part-h-requires : goal.part-h-requires
-part-h-requires c =
-    (gathering_roomy c.requires.1 c.loop-turn.invariant, ((named_turn records.words c.args.s.now c.loop-turn.i c.which-w.result c.in-Is.turn
-    c.in-Is.value c.which-w.ensures c.in-Is.is)).0)
+part-h-requires c = (
+  gathering_roomy c.requires.1 c.loop-turn.invariant,
+  ((named_turn records.words c.args.s.now c.loop-turn.i c.which-w.result c.in-Is.turn
+      c.in-Is.value c.which-w.ensures c.in-Is.is)).0,
+)
 
 pub returns-in_default-h : goal.returns-in_default-h
 returns-in_default-h c =
@@ -61,8 +63,12 @@ offset_bounds-spans-turn-in-loop-turn c = let h = (let z : c.in-Is.turn ≤ 5 = 
     c.in-Is.value c.which-w.ensures c.in-Is.is)).0 in omega (arith, t.to, records_proper.few) in z) in search rules
 
 pub bounds-spans-turn-in-loop-turn : goal.bounds-spans-turn-in-loop-turn
-bounds-spans-turn-in-loop-turn c = omega (arith, (let z : c.in-Is.turn ≤ 5 = let t = ((named_turn records.words c.args.s.now c.loop-turn.i c.which-w.result c.in-Is.turn
-    c.in-Is.value c.which-w.ensures c.in-Is.is)).0 in omega (arith, t.to, records_proper.few) in z), c.loop-turn.invariant.spans)
+bounds-spans-turn-in-loop-turn c = omega (
+  arith,
+  (let z : c.in-Is.turn ≤ 5 = let t = ((named_turn records.words c.args.s.now c.loop-turn.i c.which-w.result c.in-Is.turn
+      c.in-Is.value c.which-w.ensures c.in-Is.is)).0 in omega (arith, t.to, records_proper.few) in z),
+  c.loop-turn.invariant.spans,
+)
 
 pub overflow_add-spans-in-loop-turn : goal.overflow_add-spans-in-loop-turn
 overflow_add-spans-in-loop-turn c = let h = (let z : c.in-Is.turn ≤ 5 = let t = ((named_turn records.words c.args.s.now c.loop-turn.i c.which-w.result c.in-Is.turn
@@ -78,8 +84,13 @@ offset_bounds-spans-turn-in-loop-turn-2 c = let h = (let z : c.in-Is.turn ≤ 5 
 
 pub bounds-spans-turn-in-loop-turn-2 : goal.bounds-spans-turn-in-loop-turn-2
 bounds-spans-turn-in-loop-turn-2 c =
-    omega (arith, (let z : c.in-Is.turn ≤ 5 = let t = ((named_turn records.words c.args.s.now c.loop-turn.i c.which-w.result c.in-Is.turn
-    c.in-Is.value c.which-w.ensures c.in-Is.is)).0 in omega (arith, t.to, records_proper.few) in z), c.loop-turn.invariant.spans, length-set c.loop-turn.spans (c.in-Is.turn + c.in-Is.turn) c.in-At.from)
+    omega (
+      arith,
+      (let z : c.in-Is.turn ≤ 5 = let t = ((named_turn records.words c.args.s.now c.loop-turn.i c.which-w.result c.in-Is.turn
+          c.in-Is.value c.which-w.ensures c.in-Is.is)).0 in omega (arith, t.to, records_proper.few) in z),
+      c.loop-turn.invariant.spans,
+      length-set c.loop-turn.spans (c.in-Is.turn + c.in-Is.turn) c.in-At.from,
+    )
 
 pub parted-c-requires : goal.parted-c-requires
 parted-c-requires c =

@@ -1,7 +1,6 @@
 -- Each turn copies one part behind those before it; the parts themselves lie before all of that.
-use Prim.Native.Nat.{◌≤◌, ◌-◌}
 use native.Mathlib.Omega.{arith}
-use Rattle.objects.proofs.Laws.Settling.{Copying, copying_start, copying_high, copying_order, copying_movable}
+use Rattle.objects.proofs.Laws.Settling.{copying_start, copying_high, copying_order, copying_movable}
 use Rattle.objects.proofs.Laws.Settling.{copying_more, copying_end, copying_none}
 use Rattle.objects.proofs.settling.copied.Goals as goal
 
@@ -24,12 +23,11 @@ moved-p-requires c =
     c.if-run-p.false
 
 pub loop-n-preserved : goal.loop-n-preserved
-loop-n-preserved c =
-    (
-      omega (arith, c.loop-n-test.true),
-      copying_more c.requires.0 c.loop-n.invariant.1 (omega (arith, c.loop-n-test.true))
-          c.moved-p.ensures,
-    )
+loop-n-preserved c = (
+  omega (arith, c.loop-n-test.true),
+  copying_more c.requires.0 c.loop-n.invariant.1 (omega (arith, c.loop-n-test.true))
+      c.moved-p.ensures,
+)
 
 pub returns : goal.returns
 returns c =

@@ -1,8 +1,6 @@
 -- Each turn copies one part behind those before it; the parts themselves lie before all of that.
 use Prim.Native.Nat.{◌≤◌, ◌-◌}
-use native.Mathlib.Omega.{arith}
-use Rattle.objects.proofs.Laws.Settling.{Copying, copying_start, copying_high, copying_order, copying_movable}
-use Rattle.objects.proofs.Laws.Settling.{copying_more, copying_end, copying_none}
+use Rattle.objects.proofs.Laws.Settling.{Copying}
 use Rattle.objects.proofs.settling.copied.Given as goal
 
 abbrev pub invariant-loop-n : goal.invariant-loop-n

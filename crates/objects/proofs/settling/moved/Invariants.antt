@@ -1,9 +1,7 @@
 -- Numbers are moved one by one: the one that comes next is still as it was, since the place is not among them.
 use Prim.Native.Nat.{◌≤◌, ◌-◌}
 use mathlib.Core.Path.{◌≡◌}
-use native.Mathlib.Omega.{arith}
-use Rattle.objects.proofs.Laws.Settling.{Moving, moving_start, moving_more, moving_end}
-use borrow.Author.Rules.{rules}
+use Rattle.objects.proofs.Laws.Settling.{Moving}
 use Rattle.objects.proofs.settling.moved.Given as goal
 
 abbrev pub invariant-loop-j : goal.invariant-loop-j

@@ -1,10 +1,8 @@
 -- As long as each part begins where the one before ends, they are one part.
 use mathlib.Core.List.{List}
 use Prim.Native.Nat.{ℕ, ◌≤◌, ◌-◌}
-use native.Mathlib.Omega.{arith}
 use Rattle.objects.specs.Spans.{Spanned}
-use Rattle.objects.proofs.Laws.Settling.{Lying, lying_start, lying_more, lying_told}
-use borrow.Author.Rules.{rules}
+use Rattle.objects.proofs.Laws.Settling.{Lying}
 use Rattle.objects.proofs.settling.settled.Given as goal
 
 abbrev pub invariant-loop-n : goal.invariant-loop-n

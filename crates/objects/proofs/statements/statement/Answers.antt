@@ -12,8 +12,7 @@ use Rattle.objects.proofs.statements.statement.Goals as goal
 pub gathered-spans-requires : goal.gathered-spans-requires
 gathered-spans-requires c =
     let low : c.args.at + 2 ≤ length c.args.run.now =
-    omega (arith, c.if-run-at-lt2.false, c.requires.room) in
-    (
+    omega (arith, c.if-run-at-lt2.false, c.requires.room) in (
       opened_inside (c.first_name-i.ensures.found c.if-i-eq0.false).opened,
       record {
         room = omega (arith, begun_low low c.begun-base.ensures);
@@ -25,8 +24,7 @@ pub returns-then-spans-eq0 : goal.returns-then-spans-eq0
 returns-then-spans-eq0 c =
     let low : c.args.at + 2 ≤ length c.args.run.now =
     omega (arith, c.if-run-at-lt2.false, c.requires.room) in
-    let name = c.first_name-i.ensures.found c.if-i-eq0.false in
-    (
+    let name = c.first_name-i.ensures.found c.if-i-eq0.false in (
       c.gathered-spans.ensures.gathers.size ∙ (begun_kept low c.begun-base.ensures).size,
       (name.opened.at, λ n h. statement_stuck name (c.gathered-spans.ensures.came c.if-spans-eq0.true) n h),
     )

@@ -2,7 +2,6 @@
 use mathlib.Core.List.{map}
 use lib.ListN.{length-map}
 use native.Mathlib.Omega.{arith}
-use borrow.Author.Tests.{not-true, not-false}
 use Rattle.syntax.specs.Forms.{is_action, wildcard}
 use Rattle.syntax.specs.Members.{characters_of}
 use Rattle.syntax.specs.PolicyLayout.{action_of}

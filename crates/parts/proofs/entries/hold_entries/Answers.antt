@@ -1,9 +1,6 @@
 -- One entry or those of a list are held behind the place of their number, which is written last.
-use mathlib.Core.Path.{sym}
 use Prim.Native.Nat.{◌≤◌}
 use native.Mathlib.Omega.{arith}
-use borrow.Author.Tests.{not-true, not-false}
-use Rattle.syntax.specs.Members.{each}
 use Rattle.held.specs.Held.{held_value}
 use Rattle.parts.specs.Holding.{is_list, entry_of}
 use Rattle.parts.proofs.Laws.Formed.{ends_past, ends_wrong}

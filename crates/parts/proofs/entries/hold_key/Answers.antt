@@ -1,7 +1,5 @@
 -- The text is held and tested where it lies.
-use mathlib.Core.Path.{sym, ◌∙◌}
 use native.Mathlib.Omega.{arith}
-use borrow.Author.Tests.{not-true, not-false}
 use Rattle.syntax.specs.Forms.{is_key}
 use Rattle.syntax.specs.Members.{characters}
 use Rattle.syntax.specs.PolicyLayout.{key_of}

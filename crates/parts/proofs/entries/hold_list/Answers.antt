@@ -4,7 +4,7 @@ use Rattle.held.specs.Held.{held_value}
 use Rattle.parts.specs.Holding.{entry_of}
 use Rattle.parts.proofs.Laws.Formed.{ends_past, ends_wrong}
 use Rattle.parts.proofs.Laws.Fits.{entry_fits}
-use Rattle.parts.proofs.Laws.Gathering.{Gathering, element_left, gathering_start, gathered_told, left_told}
+use Rattle.parts.proofs.Laws.Gathering.{gathering_start, gathered_told, left_told}
 use Rattle.parts.proofs.Laws.Gathering.{gathering_end, gathering_past, next, next_holdable, next_resting}
 use Rattle.parts.proofs.Laws.Gathering.{next_wrong, next_few, gathering_more, gathering_less}
 use borrow.Author.Rules.{rules}

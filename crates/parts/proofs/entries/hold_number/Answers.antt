@@ -1,5 +1,4 @@
 -- The number that stands there is put from the place on.
-use mathlib.Core.Path.{sym, ◌∙◌}
 use native.Mathlib.Omega.{arith}
 use Rattle.parts.proofs.Laws.Extends.{extends_after}
 use Rattle.parts.proofs.Laws.Halves.{json_small, json_room, number_told, wrong_told}

@@ -1,8 +1,7 @@
 -- The text is held and tested where it lies.
-use mathlib.Core.Path.{sym, ◌∙◌}
+use mathlib.Core.Path.{◌∙◌}
 use mathlib.Core.Bool.{true}
 use native.Mathlib.Omega.{arith}
-use borrow.Author.Tests.{not-true, not-false}
 use Rattle.syntax.specs.Forms.{is_resource, symbols_of}
 use Rattle.syntax.specs.Members.{then, characters_of}
 use Rattle.syntax.specs.PolicyLayout.{resource_of}

@@ -1,7 +1,5 @@
 -- The text is held and tested where it lies.
-use mathlib.Core.Path.{sym, ◌∙◌}
 use native.Mathlib.Omega.{arith}
-use borrow.Author.Tests.{not-true, not-false}
 use Rattle.syntax.specs.Forms.{is_sid}
 use Rattle.syntax.specs.Members.{characters_of}
 use Rattle.syntax.specs.PolicyLayout.{sid_of}

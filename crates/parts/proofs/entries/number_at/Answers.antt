@@ -3,7 +3,6 @@ use mathlib.Core.Path.{◌≡◌, refl, sym, ap, ◌∙◌}
 use Prim.Native.Nat.{ℕ}
 use Rattle.chars.specs.Base.{part}
 use native.Mathlib.Omega.{arith}
-use borrow.Author.Tests.{not-true, not-false}
 use Rattle.syntax.specs.Forms.{number_in}
 use Rattle.syntax.specs.Members.{characters_of}
 use Rattle.parts.specs.Holding.{is_number}

@@ -1,5 +1,4 @@
 -- The decoder lays the characters behind the place of their number; there is room for as many as bytes.
-use mathlib.Core.Path.{refl, ap, ◌∙◌}
 use Prim.Native.Nat.{◌≤◌}
 use native.Mathlib.Omega.{arith}
 use Rattle.parts.proofs.Laws.Holding.{held_size, held_lone, held_short, held_count, held_text_lem}

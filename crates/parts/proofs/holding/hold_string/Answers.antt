@@ -1,7 +1,6 @@
 -- A string's part between the quotes is held, and the string ends behind its last quote; no other value is a text.
-use mathlib.Core.Path.{refl, sym, ap, ◌∙◌, subst}
+use mathlib.Core.Path.{refl, sym, ap, ◌∙◌}
 use native.Mathlib.Omega.{arith}
-use borrow.Author.Tests.{not-true, not-false}
 use Rattle.held.specs.Held.{held_text}
 use Rattle.parts.specs.Holding.{is_text}
 use Rattle.parts.proofs.Laws.Holding.{not_text, string_stands, text_said, text_ends, stands_text, text_room}

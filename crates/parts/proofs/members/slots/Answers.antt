@@ -7,7 +7,7 @@ use Rattle.text.specs.declared.walk.Member.{Member}
 use Rattle.text.proofs.Laws.Contents.{stands_done}
 use Rattle.text.proofs.Laws.Places.{value_grows}
 use Rattle.parts.specs.Slots.{words_of}
-use Rattle.parts.proofs.Laws.Walking.{Walking, walking_start, walking_told, walking_end, left_of, left_falls}
+use Rattle.parts.proofs.Laws.Walking.{walking_start, walking_told, walking_end, left_of, left_falls}
 use Rattle.parts.proofs.Laws.Walking.{layout_distinct, layout_few}
 use Rattle.parts.proofs.Laws.WalkingOn.{leader, turn, walking_unknown, walking_repeated, walking_more}
 use borrow.Author.Rules.{rules}

@@ -1,18 +1,14 @@
 -- The list's first element is held; it is the only one if nothing stands behind it.
 -- the list and its first element
-use mathlib.Core.Path.{◌≡◌, refl, ◌∙◌}
-use Prim.Native.Nat.{ℕ}
+use mathlib.Core.Path.{refl, ◌∙◌}
 use native.Mathlib.Omega.{arith}
-use borrow.Author.Tests.{not-true, not-false}
-use Rattle.text.specs.Json.{Json}
-use Rattle.text.specs.Contents.{Stands}
 use Rattle.syntax.specs.Members.{characters_of}
 use Rattle.held.specs.Held.{held_text}
-use Rattle.parts.specs.Holding.{is_list, Laid}
+use Rattle.parts.specs.Holding.{is_list}
 use Rattle.parts.proofs.Laws.Room.{roomy_less}
 use Rattle.parts.proofs.Laws.Formed.{ends_past, ends_wrong}
 use Rattle.parts.proofs.Laws.Requests.Members.{is_kind}
-use Rattle.parts.proofs.Laws.Requests.Sole.{only_not, is_list_lem, list_stands, only_empty, Begun, list_begun}
+use Rattle.parts.proofs.Laws.Requests.Sole.{only_not, is_list_lem, list_stands, only_empty, list_begun}
 use Rattle.parts.proofs.Laws.Requests.Sole.{begun_rest, begun_cost, begun_wrong, begun_more, begun_sole}
 use Rattle.parts.proofs.sole.hold_sole.Goals as goal
 
@@ -60,10 +56,14 @@ pub next_element-n-requires : goal.next_element-n-requires
 next_element-n-requires c =
     let b = (list_begun _ c.requires.is (is_kind is_list c.kind_at.ensures c.is_list.ensures c.if-not-is_list.false _ _ c.requires.is) _
     c.first_element-m.ensures c.in-At.is) in
-    record { what = b.tail; stop = _; is = begun_rest b ((let b = (list_begun _ c.requires.is (is_kind is_list c.kind_at.ensures c.is_list.ensures c.if-not-is_list.false _ _ c.requires.is) _
-    c.first_element-m.ensures c.in-At.is) in
-    ends_past held_text c.args.run.now c.hold_string-h.new.run c.args.at
-    (characters_of b.head) b.stop (c.hold_string-h.ensures _ _ b.at) c.in-Past.is)).1 }
+    record {
+      what = b.tail;
+      stop = _;
+      is = begun_rest b ((let b = (list_begun _ c.requires.is (is_kind is_list c.kind_at.ensures c.is_list.ensures c.if-not-is_list.false _ _ c.requires.is) _
+          c.first_element-m.ensures c.in-At.is) in
+          ends_past held_text c.args.run.now c.hold_string-h.new.run c.args.at
+          (characters_of b.head) b.stop (c.hold_string-h.ensures _ _ b.at) c.in-Past.is)).1;
+    }
 
 pub returns-in_default-n : goal.returns-in_default-n
 returns-in_default-n c =

@@ -1,7 +1,7 @@
 -- A string is compared between its quotes; no other value is a word.
 use mathlib.Core.Path.{sym, ap, ◌∙◌}
 use native.Mathlib.Omega.{arith}
-use borrow.Author.Tests.{not-true, not-false}
+use borrow.Author.Tests.{not-false}
 use Rattle.parts.specs.Holding.{is_text}
 use Rattle.parts.proofs.Laws.Holding.{string_stands, stands_text}
 use Rattle.parts.proofs.Laws.Spoken.{word_no, word_said}

@@ -1,12 +1,7 @@
 -- A string's part between the quotes names the type, and the string ends behind its last quote.
 -- whatever stands there is a string
-use mathlib.Core.Path.{◌≡◌, sym, ◌∙◌}
-use mathlib.Core.Bool.{true}
-use Prim.Native.Nat.{ℕ}
+use mathlib.Core.Path.{sym, ◌∙◌}
 use native.Mathlib.Omega.{arith}
-use borrow.Author.Tests.{not-true, not-false}
-use Rattle.text.specs.Json.{Json}
-use Rattle.text.specs.Contents.{kind_of, Stands, Raw}
 use Rattle.parts.specs.Holding.{is_text}
 use Rattle.parts.proofs.Laws.Holding.{string_stands, stands_text, text_ends}
 use Rattle.parts.proofs.Laws.Requests.Members.{is_kind}

@@ -1,20 +1,18 @@
 -- The key is held behind the place of the type, the type is put there, and the value is held behind the key.
-use mathlib.Core.Path.{◌≡◌, refl, sym, ◌∙◌}
-use Prim.Native.Nat.{ℕ, ◌+◌, ◌<◌}
+use mathlib.Core.Path.{refl, sym, ◌∙◌}
+use Prim.Native.Nat.{◌+◌}
 use native.Mathlib.Omega.{arith}
-use lib.ListN.{length, get_or, length-set}
-use borrow.Author.Tests.{not-true, not-false}
-use Rattle.text.specs.Json.{Json}
-use Rattle.text.specs.Contents.{Stands}
+use lib.ListN.{length-set}
+use borrow.Author.Tests.{not-false}
 use Rattle.syntax.specs.Words.{context_key_name_word, context_key_type_word, context_key_values_word}
 use Rattle.syntax.specs.Members.{slot, required}
 use Rattle.syntax.specs.RecordLayout.{key_name_of, context_of}
 use Rattle.held.specs.Held.{held_text, held_context}
-use Rattle.parts.specs.Holding.{is_object, Laid, Holds}
+use Rattle.parts.specs.Holding.{is_object}
 use Rattle.parts.proofs.Laws.Formed.{holds_past, holds_wrong}
 use Rattle.parts.proofs.Laws.Requests.Members.{is_kind, refused, holds_as}
 use Rattle.parts.proofs.Laws.Requests.Objects.{is_object_lem, object_stands}
-use Rattle.policy.proofs.Laws.Requests.Context.{not_context, context_within, key_wrong, type_wrong, Parts}
+use Rattle.policy.proofs.Laws.Requests.Context.{not_context, context_within, key_wrong, type_wrong}
 use Rattle.policy.proofs.Laws.Requests.Context.{context_parts, context_end, context_apart, context_held}
 use Rattle.policy.proofs.Laws.Requests.Fits.{key_room, front_room, value_room}
 use mathlib.Core.Path.{ap}
@@ -47,11 +45,15 @@ returns-then-end-eq0 c =
 
 pub overflow_add-at : goal.overflow_add-at
 overflow_add-at c =
-    omega (arith, (front_room _ c.requires.roomy (((let o = is_kind is_object c.kind_at.ensures c.is_object.ensures
-    c.if-not-is_object.false _ _ c.requires.is in
-    context_parts _ c.requires.is o c.slots-places.result c.slots-places.ensures c.if-end-eq0.false))).members (((let o = is_kind is_object c.kind_at.ensures c.is_object.ensures
-    c.if-not-is_object.false _ _ c.requires.is in
-    context_parts _ c.requires.is o c.slots-places.result c.slots-places.ensures c.if-end-eq0.false))).is), c.requires.roomy.bounded)
+    omega (
+      arith,
+      (front_room _ c.requires.roomy (((let o = is_kind is_object c.kind_at.ensures c.is_object.ensures
+          c.if-not-is_object.false _ _ c.requires.is in
+          context_parts _ c.requires.is o c.slots-places.result c.slots-places.ensures c.if-end-eq0.false))).members (((let o = is_kind is_object c.kind_at.ensures c.is_object.ensures
+          c.if-not-is_object.false _ _ c.requires.is in
+          context_parts _ c.requires.is o c.slots-places.result c.slots-places.ensures c.if-end-eq0.false))).is),
+      c.requires.roomy.bounded,
+    )
 
 pub hold_key_name-h-requires : goal.hold_key_name-h-requires
 hold_key_name-h-requires c =
@@ -72,9 +74,12 @@ returns-in_default c =
 
 pub type_at-kind-requires : goal.type_at-kind-requires
 type_at-kind-requires c =
-    record { what = _; is = (((let o = is_kind is_object c.kind_at.ensures c.is_object.ensures
-    c.if-not-is_object.false _ _ c.requires.is in
-    context_parts _ c.requires.is o c.slots-places.result c.slots-places.ensures c.if-end-eq0.false))).type }
+    record {
+      what = _;
+      is = (((let o = is_kind is_object c.kind_at.ensures c.is_object.ensures
+          c.if-not-is_object.false _ _ c.requires.is in
+          context_parts _ c.requires.is o c.slots-places.result c.slots-places.ensures c.if-end-eq0.false))).type;
+    }
 
 pub returns-then-kind-eq0 : goal.returns-then-kind-eq0
 returns-then-kind-eq0 c =
@@ -85,25 +90,29 @@ returns-then-kind-eq0 c =
     let y = slot context_key_type_word m.members in
     record {
       size = ((holds_past held_text c.args.run.now c.hold_key_name-h.new.run
-    (c.args.at + 1) (required key_name_of (slot context_key_name_word m.members))
-    (c.hold_key_name-h.ensures _ m.key) c.in-Past.is)).extends.size;
+          (c.args.at + 1) (required key_name_of (slot context_key_name_word m.members))
+          (c.hold_key_name-h.ensures _ m.key) c.in-Past.is)).extends.size;
       said = m.said ∙ type_wrong x y (slot context_key_values_word m.members) (sym (c.type_at-kind.ensures _
           m.type) ∙ c.if-kind-eq0.true);
     }
 
 pub bounds-run-at : goal.bounds-run-at
 bounds-run-at c =
-    omega (arith, (front_room _ c.requires.roomy (((let o = is_kind is_object c.kind_at.ensures c.is_object.ensures
-    c.if-not-is_object.false _ _ c.requires.is in
-    context_parts _ c.requires.is o c.slots-places.result c.slots-places.ensures c.if-end-eq0.false))).members (((let o = is_kind is_object c.kind_at.ensures c.is_object.ensures
-    c.if-not-is_object.false _ _ c.requires.is in
-    context_parts _ c.requires.is o c.slots-places.result c.slots-places.ensures c.if-end-eq0.false))).is), ((holds_past held_text c.args.run.now c.hold_key_name-h.new.run
-    (c.args.at + 1) (required key_name_of (slot context_key_name_word (((let o = is_kind is_object c.kind_at.ensures c.is_object.ensures
-    c.if-not-is_object.false _ _ c.requires.is in
-    context_parts _ c.requires.is o c.slots-places.result c.slots-places.ensures c.if-end-eq0.false))).members))
-    (c.hold_key_name-h.ensures _ (((let o = is_kind is_object c.kind_at.ensures c.is_object.ensures
-    c.if-not-is_object.false _ _ c.requires.is in
-    context_parts _ c.requires.is o c.slots-places.result c.slots-places.ensures c.if-end-eq0.false))).key) c.in-Past.is)).extends.size)
+    omega (
+      arith,
+      (front_room _ c.requires.roomy (((let o = is_kind is_object c.kind_at.ensures c.is_object.ensures
+          c.if-not-is_object.false _ _ c.requires.is in
+          context_parts _ c.requires.is o c.slots-places.result c.slots-places.ensures c.if-end-eq0.false))).members (((let o = is_kind is_object c.kind_at.ensures c.is_object.ensures
+          c.if-not-is_object.false _ _ c.requires.is in
+          context_parts _ c.requires.is o c.slots-places.result c.slots-places.ensures c.if-end-eq0.false))).is),
+      ((holds_past held_text c.args.run.now c.hold_key_name-h.new.run
+          (c.args.at + 1) (required key_name_of (slot context_key_name_word (((let o = is_kind is_object c.kind_at.ensures c.is_object.ensures
+          c.if-not-is_object.false _ _ c.requires.is in
+          context_parts _ c.requires.is o c.slots-places.result c.slots-places.ensures c.if-end-eq0.false))).members))
+          (c.hold_key_name-h.ensures _ (((let o = is_kind is_object c.kind_at.ensures c.is_object.ensures
+          c.if-not-is_object.false _ _ c.requires.is in
+          context_parts _ c.requires.is o c.slots-places.result c.slots-places.ensures c.if-end-eq0.false))).key) c.in-Past.is)).extends.size,
+    )
 
 pub hold_typed-g-requires : goal.hold_typed-g-requires
 hold_typed-g-requires c =
@@ -115,8 +124,8 @@ hold_typed-g-requires c =
       is = m.value;
       roomy = value_room _ c.requires.roomy m.members m.is
           c.type_at-kind.result ((holds_past held_text c.args.run.now c.hold_key_name-h.new.run
-    (c.args.at + 1) (required key_name_of (slot context_key_name_word m.members))
-    (c.hold_key_name-h.ensures _ m.key) c.in-Past.is));
+          (c.args.at + 1) (required key_name_of (slot context_key_name_word m.members))
+          (c.hold_key_name-h.ensures _ m.key) c.in-Past.is));
     }
 
 pub shape_of-run-in_default-g : goal.shape_of-run-in_default-g
@@ -152,23 +161,23 @@ pub returns : goal.returns
 returns c =
     λ t e p. (
       holds_past held_context _ _ _ (context_of t) ((let m = (let o = is_kind is_object c.kind_at.ensures c.is_object.ensures
-    c.if-not-is_object.false t e p in
-    context_parts t p o c.slots-places.result c.slots-places.ensures c.if-end-eq0.false) in
-    let x = slot context_key_name_word m.members in
-    let y = slot context_key_type_word m.members in
-    let z = slot context_key_values_word m.members in
-    let h = context_held x y z ((holds_past held_text c.args.run.now c.hold_key_name-h.new.run
-    (c.args.at + 1) (required key_name_of (slot context_key_name_word m.members))
-    (c.hold_key_name-h.ensures _ m.key) c.in-Past.is)) ((front_room _ c.requires.roomy (((let o = is_kind is_object c.kind_at.ensures c.is_object.ensures
-    c.if-not-is_object.false _ _ c.requires.is in
-    context_parts _ c.requires.is o c.slots-places.result c.slots-places.ensures c.if-end-eq0.false))).members (((let o = is_kind is_object c.kind_at.ensures c.is_object.ensures
-    c.if-not-is_object.false _ _ c.requires.is in
-    context_parts _ c.requires.is o c.slots-places.result c.slots-places.ensures c.if-end-eq0.false))).is)) c.type_at-kind.result
-    (c.type_at-kind.ensures _ m.type) c.if-kind-eq0.false c.hold_typed-g.new.run c.hold_typed-g.result
-    (c.hold_typed-g.ensures z m.value) in
-    holds_as held_context c.args.run.now c.hold_typed-g.new.run c.args.at (context_within m.members) _
-    c.hold_typed-g.result h m.said)) c.in-Past-g.is,
+          c.if-not-is_object.false t e p in
+          context_parts t p o c.slots-places.result c.slots-places.ensures c.if-end-eq0.false) in
+          let x = slot context_key_name_word m.members in
+          let y = slot context_key_type_word m.members in
+          let z = slot context_key_values_word m.members in
+          let h = context_held x y z ((holds_past held_text c.args.run.now c.hold_key_name-h.new.run
+          (c.args.at + 1) (required key_name_of (slot context_key_name_word m.members))
+          (c.hold_key_name-h.ensures _ m.key) c.in-Past.is)) ((front_room _ c.requires.roomy (((let o = is_kind is_object c.kind_at.ensures c.is_object.ensures
+          c.if-not-is_object.false _ _ c.requires.is in
+          context_parts _ c.requires.is o c.slots-places.result c.slots-places.ensures c.if-end-eq0.false))).members (((let o = is_kind is_object c.kind_at.ensures c.is_object.ensures
+          c.if-not-is_object.false _ _ c.requires.is in
+          context_parts _ c.requires.is o c.slots-places.result c.slots-places.ensures c.if-end-eq0.false))).is)) c.type_at-kind.result
+          (c.type_at-kind.ensures _ m.type) c.if-kind-eq0.false c.hold_typed-g.new.run c.hold_typed-g.result
+          (c.hold_typed-g.ensures z m.value) in
+          holds_as held_context c.args.run.now c.hold_typed-g.new.run c.args.at (context_within m.members) _
+          c.hold_typed-g.result h m.said)) c.in-Past-g.is,
       (let o = is_kind is_object c.kind_at.ensures c.is_object.ensures
-    c.if-not-is_object.false t e p in
-    context_end t p o c.slots-places.result c.slots-places.ensures c.if-end-eq0.false),
+          c.if-not-is_object.false t e p in
+          context_end t p o c.slots-places.result c.slots-places.ensures c.if-end-eq0.false),
     )

@@ -1,16 +1,10 @@
 -- Each turn holds one entry behind those before it, or ends the walk: none left, one that is wrong, a key given twice.
-use mathlib.Core.Path.{◌≡◌, sym, ◌∙◌}
-use native.Mathlib.Omega.{arith}
 use Rattle.syntax.specs.RecordLayout.{context_of, same_context}
 use Rattle.held.specs.Held.{held_context}
-use Rattle.parts.specs.Holding.{Laid}
-use Rattle.parts.proofs.Laws.Formed.{ends_past, ends_wrong}
 use Rattle.parts.proofs.Laws.Differ.{same_context_symmetric}
-use Rattle.parts.proofs.Laws.Gathering.{element_left, next_holdable, next_resting, next_few}
-use Rattle.parts.proofs.Laws.Gathering.{gathering_less}
+use Rattle.parts.proofs.Laws.Gathering.{element_left}
 use Rattle.policy.proofs.Laws.Requests.Fits.{context_fits}
-use Rattle.policy.proofs.Laws.Apart.{Apart, apart_start, apart_end, apart_past, after, apart_wrong, one_lies}
-use Rattle.policy.proofs.Laws.Apart.{many_lie, apart_lying, apart_size, apart_alike, apart_more}
+use Rattle.policy.proofs.Laws.Apart.{Apart}
 use Rattle.policy.proofs.contexts.hold_differing.Given as goal
 
 abbrev pub invariant-loop-m : goal.invariant-loop-m

@@ -1,17 +1,13 @@
 -- The entries are held behind the place of their number, which is then put there.
 -- whatever stands there is a list
-use mathlib.Core.Path.{◌≡◌, refl, ◌∙◌}
-use Prim.Native.Nat.{ℕ, ◌+◌}
+use mathlib.Core.Path.{refl, ◌∙◌}
+use Prim.Native.Nat.{◌+◌}
 use native.Mathlib.Omega.{arith}
 use lib.ListN.{length-set}
-use borrow.Author.Tests.{not-true, not-false}
-use mathlib.Core.Bool.{true}
-use Rattle.text.specs.Json.{Json}
-use Rattle.text.specs.Contents.{kind_of, Stands}
 use Rattle.syntax.specs.Members.{each}
 use Rattle.syntax.specs.RecordLayout.{context_of}
 use Rattle.held.specs.Held.{held_context}
-use Rattle.parts.specs.Holding.{is_list, Gathered}
+use Rattle.parts.specs.Holding.{is_list}
 use Rattle.parts.proofs.Laws.Formed.{lists_several, lists_wrong}
 use Rattle.parts.proofs.Laws.Requests.Members.{is_kind}
 use Rattle.policy.proofs.Laws.Requests.Contexts.{not_list, apartly, listed, listed_stands, contexts_wrong}

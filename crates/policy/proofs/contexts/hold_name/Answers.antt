@@ -1,16 +1,12 @@
 -- The text is held, and then tested where it lies.
 -- the text that lies in the run, and where it ends
-use mathlib.Core.Path.{◌≡◌, ◌∙◌}
-use Prim.Native.Nat.{ℕ, ◌≤◌}
+use mathlib.Core.Path.{◌∙◌}
+use Prim.Native.Nat.{◌≤◌}
 use native.Mathlib.Omega.{arith}
 use lib.ListN.{length}
-use borrow.Author.Tests.{not-true, not-false}
-use Rattle.text.specs.Json.{Json}
-use Rattle.text.specs.Contents.{Stands}
 use Rattle.syntax.specs.Members.{characters_of}
 use Rattle.syntax.specs.RecordLayout.{is_key_name}
 use Rattle.held.specs.Held.{held_text}
-use Rattle.parts.specs.Holding.{Laid}
 use Rattle.parts.proofs.Laws.Formed.{ends_past, ends_wrong, past_first, past_within, part_told, formed_no, formed_yes}
 use Rattle.parts.proofs.Laws.Formed.{then_wrong}
 use Rattle.parts.proofs.Laws.Requests.Sole.{key_name_said}

@@ -1,16 +1,13 @@
 -- The value is held as a text; a number's halves are then laid in its place.
 -- the text that lies in the run, and where its list ends
-use mathlib.Core.Path.{◌≡◌, ◌∙◌}
-use Prim.Native.Nat.{ℕ, ◌≤◌}
+use mathlib.Core.Path.{◌∙◌}
+use Prim.Native.Nat.{◌≤◌}
 use native.Mathlib.Omega.{arith}
 use lib.ListN.{length}
-use Rattle.text.specs.Json.{Json}
-use Rattle.text.specs.Contents.{Stands}
 use Rattle.syntax.specs.Policy.{text, number}
 use Rattle.syntax.specs.Members.{characters_of}
 use Rattle.syntax.specs.RecordLayout.{only_one}
 use Rattle.held.specs.Held.{held_text}
-use Rattle.parts.specs.Holding.{Laid}
 use Rattle.syntax.proofs.Laws.Numbers.{number_small}
 use Rattle.parts.proofs.Laws.Extends.{extends_kept, extends_after}
 use Rattle.parts.proofs.Laws.Formed.{ends_past, ends_wrong, past_first, past_within, then_read, left_then}

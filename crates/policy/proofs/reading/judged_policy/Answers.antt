@@ -1,9 +1,8 @@
 -- What the text is, is told from the place on: broken, too deep, or whole. A whole text with an unfit member there is no
 -- policy; any other is held.
 -- the verdict on the text
-use mathlib.Core.Path.{◌≡◌, sym, ◌∙◌}
+use mathlib.Core.Path.{sym, ◌∙◌}
 use native.Mathlib.Omega.{arith}
-use Rattle.text.specs.Machine.{verdict}
 use Rattle.policy.specs.Reading.{policy_rules}
 use Rattle.policy.proofs.Laws.Reading.{says_broken, says_deep, lent_again}
 use Rattle.policy.proofs.Laws.Onward.{judged_wrong}
@@ -13,14 +12,13 @@ pub judged-v-requires : goal.judged-v-requires
 judged-v-requires c = c.requires.1.1.inside
 
 pub blamed-requires : goal.blamed-requires
-blamed-requires c =
-    (
-      sym c.judged-v.ensures ∙ c.in-Whole.is,
-      (
-        c.requires.1.1.inside,
-        (let e = c.requires.1.0.enough c.requires.0 in omega arith, c.requires.1.0.bounded),
-      ),
-    )
+blamed-requires c = (
+  sym c.judged-v.ensures ∙ c.in-Whole.is,
+  (
+    c.requires.1.1.inside,
+    (let e = c.requires.1.0.enough c.requires.0 in omega arith, c.requires.1.0.bounded),
+  ),
+)
 
 pub returns-then-blamed : goal.returns-then-blamed
 returns-then-blamed c =

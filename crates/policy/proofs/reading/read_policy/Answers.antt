@@ -2,9 +2,6 @@
 -- where the function starts
 use mathlib.Core.Path.{sym, ◌∙◌}
 use native.Mathlib.Omega.{arith}
-use Rattle.syntax.specs.PolicyLayout.{policy_of}
-use Rattle.held.specs.Held.{held}
-use Rattle.objects.specs.Telling.{TakenText}
 use Rattle.policy.specs.Reading.{policy_rules}
 use Rattle.policy.proofs.Laws.Reading.{says_long, lent_again, held_lies, policy_over, policy_known}
 use Rattle.policy.proofs.Laws.Onward.{finds_held, finds_left}

@@ -13,12 +13,11 @@ pub record-h-requires : goal.record-h-requires
 record-h-requires c = c.requires.bounded
 
 pub judged_record-requires : goal.judged_record-requires
-judged_record-requires c =
-    (
-      omega (arith, c.if-s-gt-RECORD.false),
-      lent_again c.requires
-          (text_wrong held_request request_of _ _ _ c.record-h.ensures c.in_default.is),
-    )
+judged_record-requires c = (
+  omega (arith, c.if-s-gt-RECORD.false),
+  lent_again c.requires
+      (text_wrong held_request request_of _ _ _ c.record-h.ensures c.in_default.is),
+)
 
 pub returns-in_default : goal.returns-in_default
 returns-in_default c = c.judged_record.ensures

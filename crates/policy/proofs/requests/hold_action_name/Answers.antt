@@ -1,7 +1,6 @@
 -- The text is held, and then tested where it lies.
 use mathlib.Core.Path.{◌∙◌}
 use native.Mathlib.Omega.{arith}
-use borrow.Author.Tests.{not-true, not-false}
 use Rattle.syntax.specs.RecordLayout.{is_action_name}
 use Rattle.held.specs.Held.{held_text}
 use Rattle.parts.proofs.Laws.Formed.{holds_past, past_first, past_within, part_told, formed_no, formed_yes}

@@ -1,19 +1,16 @@
 -- The members are found in one walk and held one behind the other.
 use mathlib.Core.Path.{refl, ◌∙◌}
-use Prim.Native.Nat.{ℕ}
-use borrow.Author.Tests.{not-true, not-false}
-use Rattle.text.specs.Json.{Json}
-use Rattle.text.specs.Contents.{Stands}
+use borrow.Author.Tests.{not-false}
 use Rattle.syntax.specs.Words.{action_names_word, resource_arns_word, context_entries_word}
 use Rattle.syntax.specs.Members.{slot}
 use Rattle.syntax.specs.RecordLayout.{request_of}
 use Rattle.held.specs.Held.{held_text, held_request}
-use Rattle.parts.specs.Holding.{is_object, Laid}
+use Rattle.parts.specs.Holding.{is_object}
 use Rattle.parts.proofs.Laws.Formed.{holds_past}
 use Rattle.parts.proofs.Laws.Requests.Members.{is_kind, refused, holds_as}
 use Rattle.parts.proofs.Laws.Requests.Objects.{is_object_lem, object_stands}
 use Rattle.policy.proofs.Laws.Requests.Record.{not_request, action_in, resource_in, request_within, action_wrong}
-use Rattle.policy.proofs.Laws.Requests.Record.{resource_wrong, Parts, request_parts, request_apart}
+use Rattle.policy.proofs.Laws.Requests.Record.{resource_wrong, request_parts, request_apart}
 use Rattle.policy.proofs.Laws.Requests.Record.{request_held}
 use Rattle.policy.proofs.Laws.Requests.Paid.{action_room, resource_room, contexts_room}
 use mathlib.Core.Path.{ap}
@@ -70,7 +67,7 @@ hold_resource_arn-b-requires c =
       what = _;
       is = m.resource;
       roomy = resource_room _ c.requires.roomy m.members m.is ((holds_past held_text c.args.run.now c.hold_action_name-a.new.run 0
-    (action_in (slot action_names_word m.members)) (c.hold_action_name-a.ensures _ m.action) c.in-Past.is));
+          (action_in (slot action_names_word m.members)) (c.hold_action_name-a.ensures _ m.action) c.in-Past.is));
     }
 
 pub shape_of-run-in_default-b : goal.shape_of-run-in_default-b
@@ -100,9 +97,9 @@ hold_contexts-requires c =
       is = m.context;
       roomy = contexts_room _ c.requires.roomy m.members m.is
           ((holds_past held_text c.args.run.now c.hold_action_name-a.new.run 0
-    (action_in (slot action_names_word m.members)) (c.hold_action_name-a.ensures _ m.action) c.in-Past.is)) ((holds_past held_text c.hold_action_name-a.new.run c.hold_resource_arn-b.new.run
-    c.in-Past.p (resource_in (slot resource_arns_word m.members))
-    (c.hold_resource_arn-b.ensures _ m.resource) c.in-Past-b.is));
+          (action_in (slot action_names_word m.members)) (c.hold_action_name-a.ensures _ m.action) c.in-Past.is)) ((holds_past held_text c.hold_action_name-a.new.run c.hold_resource_arn-b.new.run
+          c.in-Past.p (resource_in (slot resource_arns_word m.members))
+          (c.hold_resource_arn-b.ensures _ m.resource) c.in-Past-b.is));
     }
 
 pub shape_of-run : goal.shape_of-run

@@ -4,7 +4,6 @@ use mathlib.Core.List.{[], ◌∷◌}
 use Prim.Native.Nat.{◌+◌}
 use native.Mathlib.Omega.{arith}
 use lib.ListN.{length-set}
-use borrow.Author.Tests.{not-true, not-false}
 use Rattle.syntax.specs.Members.{optional}
 use Rattle.syntax.specs.RecordLayout.{only_one, is_resource_arn, resource_arn_of}
 use Rattle.held.specs.Held.{held_text}

@@ -2,7 +2,6 @@
 use mathlib.Core.Path.{refl}
 use Prim.Native.Nat.{◌≤◌}
 use native.Mathlib.Omega.{arith}
-use borrow.Author.Tests.{not-true, not-false}
 use Rattle.held.specs.Held.{held_row}
 use Rattle.syntax.specs.PolicyLayout.{operators_in, condition_of}
 use Rattle.parts.specs.Holding.{is_object}

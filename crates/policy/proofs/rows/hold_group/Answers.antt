@@ -1,7 +1,6 @@
 -- An object's rows, of which there has to be one.
 use mathlib.Core.Path.{refl}
 use native.Mathlib.Omega.{arith}
-use borrow.Author.Tests.{not-true, not-false}
 use Rattle.held.specs.Held.{held_row}
 use Rattle.parts.specs.Spoken.{operator_is}
 use Rattle.syntax.specs.PolicyLayout.{rows_of}

@@ -3,8 +3,7 @@ use mathlib.Core.Path.{sym, ◌∙◌}
 use Rattle.held.specs.Held.{held_row}
 use Rattle.parts.specs.Spoken.{operator_is}
 use Rattle.parts.proofs.Laws.Formed.{ends_past, ends_wrong}
-use Rattle.parts.proofs.Laws.Walking.{left_of}
-use Rattle.policy.proofs.Laws.Rows.{Apart, apart_start, apart_end, apart_past, here, here_member}
+use Rattle.policy.proofs.Laws.Rows.{apart_start, apart_end, apart_past, here, here_member}
 use Rattle.policy.proofs.Laws.Rows.{here_continuing, here_less, apart_wrong, rows_lie, row_lies, row_lying}
 use Rattle.policy.proofs.Laws.Rows.{apart_size, apart_twice, apart_few, apart_more}
 use borrow.Author.Rules.{rules}

@@ -1,13 +1,7 @@
 -- Each turn holds one row behind those before it; a key that one of them has, or a wrong row, ends the walk.
-use mathlib.Core.Path.{sym, ◌∙◌}
-use Rattle.held.specs.Held.{held_row}
 use Rattle.parts.specs.Spoken.{operator_is}
-use Rattle.parts.proofs.Laws.Formed.{ends_past, ends_wrong}
 use Rattle.parts.proofs.Laws.Walking.{left_of}
-use Rattle.policy.proofs.Laws.Rows.{Apart, apart_start, apart_end, apart_past, here, here_member}
-use Rattle.policy.proofs.Laws.Rows.{here_continuing, here_less, apart_wrong, rows_lie, row_lies, row_lying}
-use Rattle.policy.proofs.Laws.Rows.{apart_size, apart_twice, apart_few, apart_more}
-use borrow.Author.Rules.{rules}
+use Rattle.policy.proofs.Laws.Rows.{Apart}
 use Rattle.policy.proofs.rows.hold_rows.Given as goal
 
 abbrev pub invariant-loop-m : goal.invariant-loop-m

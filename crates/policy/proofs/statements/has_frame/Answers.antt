@@ -1,5 +1,4 @@
 -- The first member is another Version; a member is unknown or repeated; Version is missing, or another.
-use borrow.Author.Tests.{not-true}
 use Rattle.policy.proofs.Laws.Framed.{framed_not, framed_none, framed_standing, framed_other}
 use Rattle.policy.proofs.statements.has_frame.Goals as goal
 

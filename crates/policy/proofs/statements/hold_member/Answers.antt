@@ -1,6 +1,5 @@
 -- By the word's turn a member is unknown, the Version or the Statement; each of these comes once and is tested or held.
 use mathlib.Core.Path.{refl, sym, ◌∙◌}
-use borrow.Author.Tests.{not-true, not-false}
 use Rattle.held.specs.Held.{held}
 use Rattle.parts.proofs.Laws.Formed.{ends_past, ends_wrong}
 use Rattle.policy.specs.Statements.{a_version, a_statement, unknown, version_again, version_wrong}

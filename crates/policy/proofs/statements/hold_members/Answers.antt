@@ -1,6 +1,5 @@
 -- Each turn takes one member more or finds that it breaks the layout; behind the last both have to have come.
-use mathlib.Core.Path.{◌≡◌, sym, ◌∙◌, subst}
-use mathlib.Core.List.{List}
+use mathlib.Core.Path.{sym, ◌∙◌, subst}
 use Prim.Native.Nat.{ℕ, ◌<◌}
 use native.Mathlib.Omega.{arith}
 use Rattle.text.specs.Contents.{Others, Leads}
@@ -8,8 +7,7 @@ use Rattle.text.specs.declared.walk.Member.{Member}
 use Rattle.text.proofs.Laws.Contents.{stands_done}
 use Rattle.text.proofs.Laws.Places.{value_grows}
 use Rattle.parts.proofs.Laws.Walking.{left_of, left_falls}
-use Rattle.policy.specs.Statements.{Takes}
-use Rattle.policy.proofs.Laws.Partway.{Partway, partway_start, left_told, laid_told, version_missing}
+use Rattle.policy.proofs.Laws.Partway.{partway_start, left_told, laid_told, version_missing}
 use Rattle.policy.proofs.Laws.Partway.{statement_missing, partway_end}
 use Rattle.policy.proofs.Laws.PartwayOn.{adds_so, adds_wrong, member, member_holdable, partway_wrong}
 use Rattle.policy.proofs.Laws.PartwayOn.{partway_more}
@@ -70,11 +68,15 @@ returns-in_default-h c =
     left_told c.loop-m.invariant (partway_wrong c.loop-m.invariant _ _ _ c.in-Named.is _ c.which-k.ensures b.0 b.1)
 
 pub next_member-m-requires : goal.next_member-m-requires
-next_member-m-requires c = record { what = _; stop = _; is = (let l = member c.loop-m.invariant _ _ _ c.in-Named.is in
-    subst (λ (i : ℕ). Others (c.args.s.now) l.tail i c.loop-m.invariant.walking.stop) (sym ((let l = member c.loop-m.invariant _ _ _ c.in-Named.is in
-    adds_so c.which-k.result c.in-Named.value l.head l.stop
-    c.loop-m.run c.hold_member-h.new.run c.loop-m.version c.loop-m.past
-    (c.hold_member-h.ensures _ _ l.stands) c.in-So.is)).1) l.follows) }
+next_member-m-requires c = record {
+  what = _;
+  stop = _;
+  is = (let l = member c.loop-m.invariant _ _ _ c.in-Named.is in
+      subst (λ (i : ℕ). Others (c.args.s.now) l.tail i c.loop-m.invariant.walking.stop) (sym ((let l = member c.loop-m.invariant _ _ _ c.in-Named.is in
+      adds_so c.which-k.result c.in-Named.value l.head l.stop
+      c.loop-m.run c.hold_member-h.new.run c.loop-m.version c.loop-m.past
+      (c.hold_member-h.ensures _ _ l.stands) c.in-So.is)).1) l.follows);
+}
 
 pub loop-m-smaller : goal.loop-m-smaller
 loop-m-smaller c =

@@ -1,6 +1,5 @@
 -- What has no policy's members makes none; of an object with them each member is held.
 use mathlib.Core.Path.{refl}
-use borrow.Author.Tests.{not-true, not-false}
 use Rattle.parts.proofs.Laws.Several.{object_stands}
 use Rattle.policy.proofs.Laws.StatementsPolicy.{policy_holdable, policy_alike}
 use Rattle.policy.proofs.statements.hold_policy.Goals as goal

@@ -1,7 +1,7 @@
 -- Only an object is a statement.
 use mathlib.Core.Path.{refl}
 use native.Mathlib.Omega.{arith}
-use borrow.Author.Tests.{not-true, not-false}
+use borrow.Author.Tests.{not-false}
 use Rattle.parts.specs.Holding.{is_object}
 use Rattle.parts.proofs.Laws.Several.{kind_told, object_holdable, object_stands}
 use Rattle.policy.proofs.Laws.Statements.{not_object, of_object}

@@ -1,6 +1,5 @@
 -- Only an object is a policy, and only with the members of one and the right Version.
 use mathlib.Core.Path.{ap, ◌∙◌}
-use borrow.Author.Tests.{not-true, not-false}
 use Rattle.syntax.specs.PolicyLayout.{policy_of}
 use Rattle.parts.specs.Holding.{is_object}
 use Rattle.parts.proofs.Laws.Holding.{never}

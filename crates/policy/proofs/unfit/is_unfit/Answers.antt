@@ -27,13 +27,12 @@ pub returns-in-0 : goal.returns-in-0
 returns-in-0 c = (refl, λ z t e p. unknown c.in-0.is)
 
 pub returns-in-1 : goal.returns-in-1
-returns-in-1 c =
-    (
-      c.hold_sid.auto.run,
-      λ z t e p. sid c.in-1.is
-          (said_wrong held_text c.args.run.now c.hold_sid.new.run 0 (sid_of t) e c.hold_sid.result (c.hold_sid.ensures t e p)
-          (sym c.is_wrong.ensures ∙ z)),
-    )
+returns-in-1 c = (
+  c.hold_sid.auto.run,
+  λ z t e p. sid c.in-1.is
+      (said_wrong held_text c.args.run.now c.hold_sid.new.run 0 (sid_of t) e c.hold_sid.result (c.hold_sid.ensures t e p)
+      (sym c.is_wrong.ensures ∙ z)),
+)
 
 pub returns-in-2 : goal.returns-in-2
 returns-in-2 c = (
@@ -44,31 +43,28 @@ returns-in-2 c = (
 )
 
 pub returns-in-3 : goal.returns-in-3
-returns-in-3 c =
-    (
-      c.hold_entries.auto.run,
-      λ z t e p. action c.in-3.is
-          (entries_wrong action_of c.args.run.now c.hold_entries.new.run 0 t e c.hold_entries.result (c.hold_entries.ensures t e p)
-          (sym c.is_wrong-in-3.ensures ∙ z)),
-    )
+returns-in-3 c = (
+  c.hold_entries.auto.run,
+  λ z t e p. action c.in-3.is
+      (entries_wrong action_of c.args.run.now c.hold_entries.new.run 0 t e c.hold_entries.result (c.hold_entries.ensures t e p)
+      (sym c.is_wrong-in-3.ensures ∙ z)),
+)
 
 pub returns-in-4 : goal.returns-in-4
-returns-in-4 c =
-    (
-      c.hold_entries-in-4.auto.run,
-      λ z t e p. resource c.in-4.is
-          (entries_wrong resource_of c.args.run.now c.hold_entries-in-4.new.run 0 t e c.hold_entries-in-4.result (c.hold_entries-in-4.ensures t e p)
-          (sym c.is_wrong-in-4.ensures ∙ z)),
-    )
+returns-in-4 c = (
+  c.hold_entries-in-4.auto.run,
+  λ z t e p. resource c.in-4.is
+      (entries_wrong resource_of c.args.run.now c.hold_entries-in-4.new.run 0 t e c.hold_entries-in-4.result (c.hold_entries-in-4.ensures t e p)
+      (sym c.is_wrong-in-4.ensures ∙ z)),
+)
 
 pub returns-in-5 : goal.returns-in-5
-returns-in-5 c =
-    (
-      c.hold_condition.auto.run,
-      λ z t e p. condition c.in-5.is
-          (said_wrong (held_list held_row) c.args.run.now c.hold_condition.new.run 0 (condition_of t) e c.hold_condition.result
-          (c.hold_condition.ensures t e p) (sym c.is_wrong-in-5.ensures ∙ z)),
-    )
+returns-in-5 c = (
+  c.hold_condition.auto.run,
+  λ z t e p. condition c.in-5.is
+      (said_wrong (held_list held_row) c.args.run.now c.hold_condition.new.run 0 (condition_of t) e c.hold_condition.result
+      (c.hold_condition.ensures t e p) (sym c.is_wrong-in-5.ensures ∙ z)),
+)
 
 pub returns-in_default : goal.returns-in_default
 returns-in_default c = (refl, λ z t e p. never z)

@@ -31,8 +31,7 @@ is_unfit-requires c =
 
 pub returns : goal.returns
 returns c =
-    let l = leader c.requires.0 c.entry-m.result (c.entry-m.ensures _ _ c.requires.0.is) c.in-Named.is in
-    (
+    let l = leader c.requires.0 c.entry-m.result (c.entry-m.ensures _ _ c.requires.0.is) c.in-Named.is in (
       c.is_unfit.ensures.0,
       λ z. member_bad c.requires.0 c.entry-m.result (c.entry-m.ensures _ _ c.requires.0.is) c.in-Named.is
           (subst (λ (k : ℕ). UnfitAs k l.head) c.which-k.ensures (c.is_unfit.ensures.1 z _ _ l.stands)),

@@ -2,11 +2,9 @@
 -- the call, and where the function starts
 use mathlib.Core.List.{map}
 use lib.ListN.{length-map}
-use borrow.Author.Tests.{not-false}
 use Rattle.syntax.specs.Forms.{is_action, wildcard}
 use Rattle.syntax.specs.Members.{characters_of}
 use Rattle.held.specs.Held.{held_text}
-use Rattle.straight.specs.Taking.{Taken}
 use Rattle.straight.proofs.Laws.Taking.{takes_past}
 use Rattle.straight.proofs.Laws.Texts.{text_first, text_within, text_rewritten}
 use Rattle.straight.proofs.Laws.Entries.{action_is}

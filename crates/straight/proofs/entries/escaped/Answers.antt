@@ -3,7 +3,6 @@
 use native.Mathlib.Omega.{arith}
 use Rattle.syntax.specs.Members.{characters_of}
 use Rattle.held.specs.Held.{held_text}
-use Rattle.straight.specs.Taking.{Taken}
 use Rattle.straight.proofs.Laws.Taking.{takes_past}
 use Rattle.straight.proofs.Laws.Texts.{text_first, text_within, symbols_room, symbols_bound, symbols_whole}
 use Rattle.straight.proofs.Laws.Texts.{symbols_taken}
@@ -37,10 +36,10 @@ bounds-run-at c =
     omega (
       arith,
       symbols_room c.requires ((takes_past held_text 0 c.args.s.now c.args.run.now c.string-h.new.run
-    c.args.v c.args.at characters_of c.string-h.ensures c.in-Past.is)) c.args.wild _ _ _
+          c.args.v c.args.at characters_of c.string-h.ensures c.in-Past.is)) c.args.wild _ _ _
           c.symbols-c.ensures c.in-Count.is,
       symbols_whole c.requires ((takes_past held_text 0 c.args.s.now c.args.run.now c.string-h.new.run
-    c.args.v c.args.at characters_of c.string-h.ensures c.in-Past.is)) c.args.wild _ _ _
+          c.args.v c.args.at characters_of c.string-h.ensures c.in-Past.is)) c.args.wild _ _ _
           c.symbols-c.ensures c.in-Count.is,
     )
 

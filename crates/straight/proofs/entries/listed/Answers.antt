@@ -1,15 +1,11 @@
 -- Each turn takes one entry behind those before it, and the mark behind it tells whether another comes.
-use mathlib.Core.Path.{◌≡◌, ◌∙◌}
-use Prim.Native.Nat.{◌-◌}
-use lib.ListN.{length}
-use Rattle.text.specs.Json.{Values}
-use Rattle.syntax.specs.Policy.{Value}
+use mathlib.Core.Path.{◌∙◌}
 use Rattle.held.specs.Held.{held_value}
 use Rattle.parts.specs.Holding.{entry_of}
 use Rattle.straight.proofs.Laws.Taking.{takes_past, takes_wrong, extends_roomy}
-use Rattle.straight.proofs.Laws.Going.{Frame, Passed, going_size, going_fits, going_less}
+use Rattle.straight.proofs.Laws.Going.{going_size, going_fits, going_less}
 use Rattle.straight.proofs.Laws.Lists.{elements_of, element_passed}
-use Rattle.straight.proofs.Laws.Entries.{Listing, listing_start, listing_more, listing_end}
+use Rattle.straight.proofs.Laws.Entries.{listing_start, listing_more, listing_end}
 use borrow.Author.Rules.{rules}
 use Rattle.straight.proofs.entries.listed.Goals as goal
 

@@ -3,7 +3,6 @@
 use native.Mathlib.Omega.{arith}
 use Rattle.syntax.specs.Members.{characters_of}
 use Rattle.held.specs.Held.{held_text}
-use Rattle.straight.specs.Taking.{Taken}
 use Rattle.straight.proofs.Laws.Taking.{takes_past}
 use Rattle.straight.proofs.Laws.Texts.{text_first, text_within}
 use Rattle.straight.proofs.Laws.Entries.{number_bound, number_taken}
@@ -25,17 +24,25 @@ slice_bounds-number_in-end c =
     c.args.v c.args.at characters_of c.string-h.ensures c.in-Past.is))
 
 pub put_number-requires : goal.put_number-requires
-put_number-requires c =
-    (
-      record {
-        room = omega (arith, c.if-run-at-lt2.false, ((takes_past held_text 0 c.args.s.now c.args.run.now c.string-h.new.run
-    c.args.v c.args.at characters_of c.string-h.ensures c.in-Past.is)).laid.extends.size, c.requires.room);
-        bounded = omega (arith, c.requires.bounded, ((takes_past held_text 0 c.args.s.now c.args.run.now c.string-h.new.run
-    c.args.v c.args.at characters_of c.string-h.ensures c.in-Past.is)).laid.extends.size);
-      },
-      number_bound c.requires ((takes_past held_text 0 c.args.s.now c.args.run.now c.string-h.new.run
-    c.args.v c.args.at characters_of c.string-h.ensures c.in-Past.is)) c.number_in-k.ensures c.in-Is.is,
-    )
+put_number-requires c = (
+  record {
+    room = omega (
+      arith,
+      c.if-run-at-lt2.false,
+      ((takes_past held_text 0 c.args.s.now c.args.run.now c.string-h.new.run
+          c.args.v c.args.at characters_of c.string-h.ensures c.in-Past.is)).laid.extends.size,
+      c.requires.room,
+    );
+    bounded = omega (
+      arith,
+      c.requires.bounded,
+      ((takes_past held_text 0 c.args.s.now c.args.run.now c.string-h.new.run
+          c.args.v c.args.at characters_of c.string-h.ensures c.in-Past.is)).laid.extends.size,
+    );
+  },
+  number_bound c.requires ((takes_past held_text 0 c.args.s.now c.args.run.now c.string-h.new.run
+      c.args.v c.args.at characters_of c.string-h.ensures c.in-Past.is)) c.number_in-k.ensures c.in-Is.is,
+)
 
 pub returns : goal.returns
 returns c =

@@ -1,11 +1,9 @@
 -- The text is held, its escapes resolved, and tested where it lies.
 -- the call, and where the function starts
 use mathlib.Core.Bool.{true}
-use borrow.Author.Tests.{not-false}
 use Rattle.syntax.specs.Forms.{is_resource, symbols_of}
 use Rattle.syntax.specs.Members.{then, characters_of}
 use Rattle.held.specs.Held.{held_text}
-use Rattle.straight.specs.Taking.{Taken}
 use Rattle.straight.proofs.Laws.Taking.{takes_past}
 use Rattle.straight.proofs.Laws.Texts.{text_first, text_within, text_formed}
 use Rattle.straight.proofs.Laws.Entries.{resource_is}

@@ -1,10 +1,8 @@
 -- The text is held and tested where it lies.
 -- the call, and where the function starts
-use borrow.Author.Tests.{not-false}
 use Rattle.syntax.specs.Forms.{is_sid}
 use Rattle.syntax.specs.Members.{characters_of}
 use Rattle.held.specs.Held.{held_text}
-use Rattle.straight.specs.Taking.{Taken}
 use Rattle.straight.proofs.Laws.Taking.{takes_past}
 use Rattle.straight.proofs.Laws.Texts.{text_first, text_within, text_formed}
 use Rattle.straight.proofs.Laws.Entries.{sid_is}

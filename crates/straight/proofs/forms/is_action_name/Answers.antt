@@ -1,6 +1,5 @@
 -- Vendor and name first, then wildcards, then the length.
 use mathlib.Core.Path.{sym, ◌∙◌}
-use borrow.Author.Tests.{not-true, not-false}
 use Rattle.parts.proofs.Laws.Requests.Tests.{action_no, action_wild, action_short}
 use Rattle.straight.proofs.forms.is_action_name.Goals as goal
 

@@ -1,6 +1,5 @@
 -- The characters are looked at first, then their number.
 use mathlib.Core.Path.{sym, ◌∙◌}
-use borrow.Author.Tests.{not-true, not-false}
 use Rattle.parts.proofs.Laws.Requests.Tests.{key_no, key_short}
 use Rattle.straight.proofs.forms.is_key_name.Goals as goal
 

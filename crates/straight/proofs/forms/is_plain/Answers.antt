@@ -1,9 +1,5 @@
 -- Every character passed is plain.
-use mathlib.Core.Path.{◌≡◌, refl, sym, ◌∙◌}
-use Prim.Native.Nat.{◌-◌}
-use lib.ListN.{length, drop}
-use borrow.Author.Tests.{not-true, not-false}
-use Rattle.syntax.specs.Forms.{all}
+use mathlib.Core.Path.{refl, sym, ◌∙◌}
 use Rattle.syntax.specs.RecordLayout.{is_plain}
 use Rattle.syntax.proofs.Laws.Forms.{all_next, all_stop, all_end}
 use Rattle.straight.proofs.forms.is_plain.Goals as goal

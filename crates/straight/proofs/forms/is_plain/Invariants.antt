@@ -1,11 +1,9 @@
 -- Every character passed is plain.
-use mathlib.Core.Path.{◌≡◌, refl, sym, ◌∙◌}
+use mathlib.Core.Path.{◌≡◌}
 use Prim.Native.Nat.{◌-◌}
 use lib.ListN.{length, drop}
-use borrow.Author.Tests.{not-true, not-false}
 use Rattle.syntax.specs.Forms.{all}
 use Rattle.syntax.specs.RecordLayout.{is_plain}
-use Rattle.syntax.proofs.Laws.Forms.{all_next, all_stop, all_end}
 use Rattle.straight.proofs.forms.is_plain.Given as goal
 
 abbrev pub invariant-loop-i : goal.invariant-loop-i

@@ -1,12 +1,8 @@
 -- None of the entries passed has the key; whichever entries lie at the places are the ones compared.
 use mathlib.Core.Path.{refl, sym, ◌∙◌}
 use mathlib.Core.Bool.{false}
-use Prim.Native.Nat.{◌-◌}
-use Rattle.syntax.specs.Policy.{Context}
 use Rattle.syntax.specs.RecordLayout.{same_context}
-use Rattle.held.specs.Held.{held_context}
-use Rattle.held.specs.Lying.{Lies}
-use Rattle.held.proofs.Laws.RunsWalk.{Walks, walk_start, walk_lying, walk_next, walk_end, walk_found, like_any}
+use Rattle.held.proofs.Laws.RunsWalk.{walk_start, walk_lying, walk_next, walk_end, walk_found, like_any}
 use Rattle.straight.proofs.keys.has_context_key.Goals as goal
 
 pub loop-i-init : goal.loop-i-init

@@ -1,6 +1,5 @@
 -- Quotes stand around the word, which is a string's body since each of its bytes stands for itself.
 use native.Mathlib.Omega.{arith}
-use borrow.Author.Tests.{not-false}
 use Rattle.straight.proofs.Laws.Marks.{unless_none, unless_some, quoted_bare}
 use Rattle.straight.proofs.marks.quote.Goals as goal
 

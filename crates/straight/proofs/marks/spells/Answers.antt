@@ -1,9 +1,8 @@
 -- As long as all were the same, so are the bytes passed.
 use mathlib.Core.Path.{◌≡◌}
-use mathlib.Core.Bool.{true}
-use Prim.Native.Nat.{ℕ, ◌≤◌, ◌<◌, ◌-◌, ◌+◌}
+use Prim.Native.Nat.{ℕ, ◌+◌}
 use native.Mathlib.Omega.{arith}
-use lib.ListN.{length, get_or}
+use lib.ListN.{get_or}
 use borrow.Author.Tests.{eqb-true}
 use Rattle.chars.proofs.Laws.Tests.{each_true, each_before}
 use Rattle.straight.proofs.Laws.Marks.{spelt_each}

@@ -2,12 +2,7 @@
 use mathlib.Core.Path.{◌≡◌}
 use mathlib.Core.Bool.{true}
 use Prim.Native.Nat.{ℕ, ◌≤◌, ◌<◌, ◌-◌, ◌+◌}
-use native.Mathlib.Omega.{arith}
 use lib.ListN.{length, get_or}
-use borrow.Author.Tests.{eqb-true}
-use Rattle.chars.proofs.Laws.Tests.{each_true, each_before}
-use Rattle.straight.proofs.Laws.Marks.{spelt_each}
-use borrow.Author.Rules.{rules}
 use Rattle.straight.proofs.marks.spells.Given as goal
 
 abbrev pub invariant-loop-j : goal.invariant-loop-j

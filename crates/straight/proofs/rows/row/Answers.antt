@@ -3,14 +3,12 @@
 use Prim.Native.Nat.{◌+◌, ◌<◌}
 use native.Mathlib.Omega.{arith}
 use lib.ListN.{length}
-use borrow.Author.Tests.{not-false}
 use Rattle.syntax.specs.Members.{characters_of, one_or_more}
 use Rattle.syntax.specs.PolicyLayout.{value_of}
 use Rattle.held.specs.Held.{held_text, held_list, held_value}
 use Rattle.parts.specs.Room.{Roomy}
 use Rattle.parts.specs.Spoken.{operator_is}
 use Rattle.parts.proofs.Laws.Formed.{past_within}
-use Rattle.straight.specs.Taking.{Taken}
 use Rattle.straight.proofs.Laws.Reads.{reads_inside}
 use Rattle.straight.proofs.Laws.Taking.{takes_past, extends_roomy}
 use Rattle.straight.proofs.Laws.Rows.{key_first, row_taken}

@@ -1,16 +1,13 @@
 -- Each turn passes one row behind those before it, whose key none of them has; behind the last the object ends.
-use mathlib.Core.Path.{◌≡◌, ◌∙◌}
-use Prim.Native.Nat.{◌-◌}
+use mathlib.Core.Path.{◌∙◌}
 use native.Mathlib.Omega.{arith}
-use lib.ListN.{length}
-use Rattle.syntax.specs.Policy.{Operator}
 use Rattle.syntax.specs.PolicyLayout.{row_of, rows_of}
 use Rattle.held.specs.Held.{held_row}
 use Rattle.parts.specs.Spoken.{operator_is}
 use Rattle.straight.proofs.Laws.Taking.{member_past}
-use Rattle.straight.proofs.Laws.Going.{Passed, going_size, going_fits, going_less}
+use Rattle.straight.proofs.Laws.Going.{going_size, going_fits, going_less}
 use Rattle.straight.proofs.Laws.Lists.{member_passed}
-use Rattle.straight.proofs.Laws.Differing.{Differing, differing_start, differing_roomy, differing_lying}
+use Rattle.straight.proofs.Laws.Differing.{differing_start, differing_roomy, differing_lying}
 use Rattle.straight.proofs.Laws.Differing.{differing_new, differing_more, differing_end}
 use Rattle.straight.proofs.Laws.Rows.{rows_by, rows_mean}
 use Rattle.straight.proofs.rows.rows.Goals as goal
@@ -50,9 +47,12 @@ returns-then-has_key c = (going_size (rows_by ((operator_is c.args.o))).frame _ 
 
 pub overflow_add-n : goal.overflow_add-n
 overflow_add-n c =
-    omega (arith, going_fits (rows_by ((operator_is c.args.o))).frame _ (c.loop-past.invariant).going ((member_passed held_row (row_of ((operator_is c.args.o))) 1
-    (member_past held_row 1 c.args.s.now c.loop-past.run c.row-h.new.run
-    c.loop-past.i c.loop-past.p (row_of ((operator_is c.args.o))) c.row-h.ensures c.in-Past.is))))
+    omega (
+      arith,
+      going_fits (rows_by ((operator_is c.args.o))).frame _ (c.loop-past.invariant).going ((member_passed held_row (row_of ((operator_is c.args.o))) 1
+          (member_past held_row 1 c.args.s.now c.loop-past.run c.row-h.new.run
+          c.loop-past.i c.loop-past.p (row_of ((operator_is c.args.o))) c.row-h.ensures c.in-Past.is))),
+    )
 
 pub parted-c-requires : goal.parted-c-requires
 parted-c-requires c = ((member_passed held_row (row_of ((operator_is c.args.o))) 1

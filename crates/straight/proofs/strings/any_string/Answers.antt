@@ -2,10 +2,8 @@
 -- the scan's answer, and where the function starts
 use mathlib.Core.Path.{refl}
 use mathlib.Core.List.{[], ◌∷◌}
-use Prim.Native.Nat.{◌+◌}
 use native.Mathlib.Omega.{arith}
 use Rattle.text.specs.Machine.{text}
-use Rattle.text.specs.Reading.{Done}
 use Rattle.text.proofs.Laws.Reading.{past}
 use Rattle.text.proofs.Laws.Places.{text_grows}
 use Rattle.held.specs.Held.{held_text}

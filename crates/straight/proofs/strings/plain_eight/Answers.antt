@@ -1,7 +1,6 @@
 -- As long as all were plain, the bytes passed stand for themselves.
 use mathlib.Core.Path.{◌≡◌, ap, ◌∙◌}
-use mathlib.Core.Bool.{true}
-use Prim.Native.Nat.{ℕ, ◌≤◌, ◌-◌, ◌+◌}
+use Prim.Native.Nat.{ℕ, ◌+◌}
 use native.Mathlib.Omega.{arith}
 use Rattle.chars.specs.Base.{part}
 use Rattle.chars.proofs.Laws.Tests.{each_true}
@@ -14,14 +13,13 @@ pub loop-j-init : goal.loop-j-init
 loop-j-init c = (search rules, λ e. bare_none c.args.s.now c.args.at)
 
 pub loop-j-preserved : goal.loop-j-preserved
-loop-j-preserved c =
-    (
-      omega arith,
-      λ e.
-          let b = each_true _ _ e in
-          bare_next c.args.s.now c.args.at c.loop-j.j (omega (arith, c.requires)) (c.loop-j.invariant.1 b.0)
-          (c.plain-all.ensures b.1),
-    )
+loop-j-preserved c = (
+  omega arith,
+  λ e.
+      let b = each_true _ _ e in
+      bare_next c.args.s.now c.args.at c.loop-j.j (omega (arith, c.requires)) (c.loop-j.invariant.1 b.0)
+      (c.plain-all.ensures b.1),
+)
 
 pub returns : goal.returns
 returns c = λ e.

@@ -1,13 +1,9 @@
 -- As long as all were plain, the bytes passed stand for themselves.
-use mathlib.Core.Path.{◌≡◌, ap, ◌∙◌}
+use mathlib.Core.Path.{◌≡◌}
 use mathlib.Core.Bool.{true}
-use Prim.Native.Nat.{ℕ, ◌≤◌, ◌-◌, ◌+◌}
-use native.Mathlib.Omega.{arith}
+use Prim.Native.Nat.{◌≤◌, ◌-◌, ◌+◌}
 use Rattle.chars.specs.Base.{part}
-use Rattle.chars.proofs.Laws.Tests.{each_true}
 use Rattle.straight.specs.Marks.{all_bare}
-use Rattle.straight.proofs.Laws.Strings.{bare_none, bare_next}
-use borrow.Author.Rules.{rules}
 use Rattle.straight.proofs.strings.plain_eight.Given as goal
 
 abbrev pub invariant-loop-j : goal.invariant-loop-j

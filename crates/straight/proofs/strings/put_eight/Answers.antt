@@ -1,6 +1,6 @@
 -- Each turn puts one byte behind those before it, until they are eight.
 use mathlib.Core.Path.{◌≡◌, subst}
-use Prim.Native.Nat.{ℕ, ◌≤◌, ◌-◌, ◌+◌}
+use Prim.Native.Nat.{ℕ, ◌+◌}
 use native.Mathlib.Omega.{arith}
 use Rattle.chars.specs.Base.{part}
 use Rattle.parts.specs.Holding.{Extends}
@@ -20,12 +20,11 @@ pub loop-j-smaller : goal.loop-j-smaller
 loop-j-smaller c = omega (arith, c.loop-j-test.true)
 
 pub loop-j-preserved : goal.loop-j-preserved
-loop-j-preserved c =
-    (
-      omega arith,
-      bytes_next c.args.s.now c.args.at c.args.to c.loop-j.j c.loop-j.invariant.1
-          (omega (arith, c.requires.0)) (omega (arith, c.requires.1, c.loop-j.invariant.1.size)) c.wide.ensures,
-    )
+loop-j-preserved c = (
+  omega arith,
+  bytes_next c.args.s.now c.args.at c.args.to c.loop-j.j c.loop-j.invariant.1
+      (omega (arith, c.requires.0)) (omega (arith, c.requires.1, c.loop-j.invariant.1.size)) c.wide.ensures,
+)
 
 pub shape_of-run : goal.shape_of-run
 shape_of-run c = c.loop-j.invariant.1.size

@@ -1,11 +1,7 @@
 -- Each turn puts one byte behind those before it, until they are eight.
-use mathlib.Core.Path.{◌≡◌, subst}
-use Prim.Native.Nat.{ℕ, ◌≤◌, ◌-◌, ◌+◌}
-use native.Mathlib.Omega.{arith}
+use Prim.Native.Nat.{◌≤◌, ◌-◌, ◌+◌}
 use Rattle.chars.specs.Base.{part}
 use Rattle.parts.specs.Holding.{Extends}
-use Rattle.straight.proofs.Laws.Strings.{bytes_none, bytes_next}
-use borrow.Author.Rules.{rules}
 use Rattle.straight.proofs.strings.put_eight.Given as goal
 
 abbrev pub invariant-loop-j : goal.invariant-loop-j

@@ -1,9 +1,5 @@
 -- Each turn puts eight bytes that were tested and for which there is room.
-use Prim.Native.Nat.{◌≤◌, ◌-◌, ◌+◌}
 use native.Mathlib.Omega.{arith}
-use lib.ListN.{length}
-use borrow.Author.Tests.{not-false}
-use Rattle.straight.specs.Taking.{Puts}
 use Rattle.straight.proofs.Laws.Strings.{puts_none, puts_then}
 use borrow.Author.Rules.{rules}
 use Rattle.straight.proofs.strings.put_eights.Goals as goal
@@ -46,11 +42,10 @@ pub overflow_add-to : goal.overflow_add-to
 overflow_add-to c = omega (arith, c.loop-n.invariant.0)
 
 pub put_eight-requires : goal.put_eight-requires
-put_eight-requires c =
-    (
-      omega (arith, c.loop-n-test.true, c.loop-n.invariant.1.inside),
-      omega (arith, c.if-run-to-lt8.false, c.loop-n.invariant.0),
-    )
+put_eight-requires c = (
+  omega (arith, c.loop-n-test.true, c.loop-n.invariant.1.inside),
+  omega (arith, c.if-run-to-lt8.false, c.loop-n.invariant.0),
+)
 
 pub overflow_add-n : goal.overflow_add-n
 overflow_add-n c =
@@ -61,13 +56,12 @@ loop-n-smaller c =
     omega (arith, c.loop-n.invariant.0, c.loop-n-test.true, c.loop-n.invariant.1.inside)
 
 pub loop-n-preserved : goal.loop-n-preserved
-loop-n-preserved c =
-    (
-      omega (arith, c.loop-n.invariant.0, c.if-run-to-lt8.false, c.put_eight.ensures.size),
-      puts_then c.loop-n.invariant.1 8 (omega (arith, c.loop-n.invariant.1.inside, c.loop-n-test.true))
-          (c.plain_eight.ensures c.if-not-plain_eight.false)
-          c.put_eight.ensures,
-    )
+loop-n-preserved c = (
+  omega (arith, c.loop-n.invariant.0, c.if-run-to-lt8.false, c.put_eight.ensures.size),
+  puts_then c.loop-n.invariant.1 8 (omega (arith, c.loop-n.invariant.1.inside, c.loop-n-test.true))
+      (c.plain_eight.ensures c.if-not-plain_eight.false)
+      c.put_eight.ensures,
+)
 
 pub shape_of-run : goal.shape_of-run
 shape_of-run c = c.loop-n.invariant.1.extends.size

@@ -1,11 +1,7 @@
 -- Each turn puts eight bytes that were tested and for which there is room.
 use Prim.Native.Nat.{◌≤◌, ◌-◌, ◌+◌}
-use native.Mathlib.Omega.{arith}
 use lib.ListN.{length}
-use borrow.Author.Tests.{not-false}
 use Rattle.straight.specs.Taking.{Puts}
-use Rattle.straight.proofs.Laws.Strings.{puts_none, puts_then}
-use borrow.Author.Rules.{rules}
 use Rattle.straight.proofs.strings.put_eights.Given as goal
 
 abbrev pub invariant-loop-n : goal.invariant-loop-n

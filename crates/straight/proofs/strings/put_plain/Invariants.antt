@@ -1,12 +1,8 @@
 -- Behind what was put by eights each turn puts one byte that was tested and for which there is room.
 use mathlib.Core.List.{List}
 use Prim.Native.Nat.{ℕ, ◌-◌}
-use native.Mathlib.Omega.{arith}
 use lib.ListN.{length}
-use borrow.Author.Tests.{not-false}
 use Rattle.straight.specs.Taking.{Puts}
-use Rattle.straight.proofs.Laws.Strings.{puts_next}
-use borrow.Author.Rules.{rules}
 use Rattle.straight.proofs.strings.put_plain.Given as goal
 
 abbrev pub invariant-loop-n : goal.invariant-loop-n

@@ -3,7 +3,6 @@
 use mathlib.Core.Path.{refl}
 use Rattle.syntax.specs.Members.{characters_of}
 use Rattle.held.specs.Held.{held_text}
-use Rattle.straight.specs.Taking.{Taken}
 use Rattle.straight.proofs.Laws.Reads.{reads_inside}
 use Rattle.straight.proofs.Laws.Taking.{takes_past, takes_wrong}
 use Rattle.straight.proofs.Laws.Strings.{sole_taken}

@@ -1,9 +1,8 @@
 -- Where all bytes up to the closing quote stand for themselves they are put already, behind the place of their number.
 -- where the function starts
 use mathlib.Core.Path.{refl}
-use Prim.Native.Nat.{◌≤◌, ◌<◌}
+use Prim.Native.Nat.{◌≤◌}
 use native.Mathlib.Omega.{arith}
-use lib.ListN.{length}
 use Rattle.chars.specs.Base.{At}
 use Rattle.syntax.specs.Members.{characters_of}
 use Rattle.held.specs.Held.{held_text}
@@ -36,17 +35,16 @@ pub returns-then-s-e : goal.returns-then-s-e
 returns-then-s-e c = c.put_plain-n.ensures.extends.size
 
 pub any_string-requires : goal.any_string-requires
-any_string-requires c =
-    (
-      (let z : At c.args.s.now c.args.v 34 = record {
-      inside = omega (arith, c.if-s-v.false);
-      is = c.if-s-v-ne34.false;
-    } in z),
-      record {
-        room = omega (arith, c.put_plain-n.ensures.extends.size, c.requires.room);
-        bounded = omega (arith, c.put_plain-n.ensures.extends.size, c.requires.bounded);
-      },
-    )
+any_string-requires c = (
+  (let z : At c.args.s.now c.args.v 34 = record {
+    inside = omega (arith, c.if-s-v.false);
+    is = c.if-s-v-ne34.false;
+  } in z),
+  record {
+    room = omega (arith, c.put_plain-n.ensures.extends.size, c.requires.room);
+    bounded = omega (arith, c.put_plain-n.ensures.extends.size, c.requires.bounded);
+  },
+)
 
 pub returns-then-s-e-ne34 : goal.returns-then-s-e-ne34
 returns-then-s-e-ne34 c =

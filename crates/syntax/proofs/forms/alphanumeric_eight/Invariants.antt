@@ -1,12 +1,8 @@
 -- As long as all were letters and digits, each character passed is one.
-use mathlib.Core.Path.{◌≡◌, sym, ◌∙◌}
+use mathlib.Core.Path.{◌≡◌}
 use mathlib.Core.Bool.{true}
 use Prim.Native.Nat.{◌≤◌, ◌-◌, ◌+◌}
-use native.Mathlib.Omega.{arith}
-use Rattle.chars.proofs.Laws.Tests.{each_true}
 use Rattle.syntax.specs.Forms.{Each, is_alphanumeric}
-use Rattle.syntax.proofs.Laws.Each.{each_none, each_next, each_at}
-use borrow.Author.Rules.{rules}
 use Rattle.syntax.proofs.forms.alphanumeric_eight.Given as goal
 
 abbrev pub invariant-loop-j : goal.invariant-loop-j

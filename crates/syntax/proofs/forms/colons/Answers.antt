@@ -1,8 +1,6 @@
 -- The colons passed and those to come are all of them.
 use native.Mathlib.Omega.{arith}
-use Prim.Native.Nat.{◌-◌}
-use lib.ListN.{length}
-use Rattle.syntax.proofs.Laws.Resources.{Counting, counting_start, counting_one, counting_other, counting_end}
+use Rattle.syntax.proofs.Laws.Resources.{counting_start, counting_one, counting_other, counting_end}
 use Rattle.syntax.proofs.forms.colons.Goals as goal
 use Rattle.syntax.proofs.forms.colons.Goals.{then-cs-i-eq58, else-cs-i-eq58}
 
@@ -18,6 +16,6 @@ returns c = counting_end c.loop-i.invariant c.loop-i-test.false
 pub loop-i-preserved : goal.loop-i-preserved
 loop-i-preserved c =
     elim c.if-cs-i-eq58.branch [
-      then-cs-i-eq58 w ↦ counting_one c.loop-i.invariant c.loop-i-test.true w.if-cs-i-eq58.true w.n-is
-    | else-cs-i-eq58 w ↦ counting_other c.loop-i.invariant c.loop-i-test.true w.if-cs-i-eq58.false w.n-is
+      | then-cs-i-eq58 w ↦ counting_one c.loop-i.invariant c.loop-i-test.true w.if-cs-i-eq58.true w.n-is
+      | else-cs-i-eq58 w ↦ counting_other c.loop-i.invariant c.loop-i-test.true w.if-cs-i-eq58.false w.n-is
     ]

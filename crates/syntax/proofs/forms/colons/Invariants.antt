@@ -1,9 +1,7 @@
 -- The colons passed and those to come are all of them.
-use native.Mathlib.Omega.{arith}
 use Prim.Native.Nat.{◌-◌}
 use lib.ListN.{length}
-use mathlib.Core.Logic.{⊎_elim}
-use Rattle.syntax.proofs.Laws.Resources.{Counting, counting_start, counting_one, counting_other, counting_end}
+use Rattle.syntax.proofs.Laws.Resources.{Counting}
 use Rattle.syntax.proofs.forms.colons.Given as goal
 
 abbrev pub invariant-loop-i : goal.invariant-loop-i

@@ -1,10 +1,8 @@
 -- Every character passed belongs to a key.
-use mathlib.Core.Path.{◌≡◌, sym, ◌∙◌}
+use mathlib.Core.Path.{◌≡◌}
 use Prim.Native.Nat.{◌-◌}
 use lib.ListN.{length, drop}
 use Rattle.syntax.specs.Forms.{all, is_key, is_key_char}
-use Rattle.syntax.proofs.Laws.Forms.{key_none, key_some, all_next, all_stop, all_end}
-use borrow.Author.Tests.{not-true, not-false}
 use Rattle.syntax.proofs.forms.is_key.Given as goal
 
 abbrev pub invariant-loop-i : goal.invariant-loop-i

@@ -1,11 +1,8 @@
 -- Every character passed belongs to a name.
-use mathlib.Core.Path.{◌≡◌, sym, ◌∙◌}
-use Prim.Native.Nat.{◌-◌}
-use lib.ListN.{length, drop}
-use Rattle.syntax.specs.Forms.{all, is_name, is_name_char}
+use mathlib.Core.Path.{sym, ◌∙◌}
+use Rattle.syntax.specs.Forms.{is_name_char}
 use Rattle.syntax.proofs.Laws.Forms.{name_none, name_some, all_next, all_stop, all_end}
 use Rattle.syntax.proofs.Laws.Each.{each_name}
-use borrow.Author.Tests.{not-true, not-false}
 use Rattle.syntax.proofs.forms.is_name.Goals as goal
 
 pub returns-then-cs-at : goal.returns-then-cs-at

@@ -1,11 +1,8 @@
 -- Every character passed is a letter or a digit.
-use mathlib.Core.Path.{◌≡◌, sym, ◌∙◌}
+use mathlib.Core.Path.{◌≡◌}
 use Prim.Native.Nat.{◌-◌}
 use lib.ListN.{length, drop}
 use Rattle.syntax.specs.Forms.{all, is_sid, is_alphanumeric}
-use Rattle.syntax.proofs.Laws.Forms.{sid_none, sid_long, sid_some, all_next, all_stop, all_end}
-use Rattle.syntax.proofs.Laws.Each.{each_alphanumeric}
-use borrow.Author.Tests.{not-true, not-false}
 use Rattle.syntax.proofs.forms.is_sid.Given as goal
 
 abbrev pub invariant-loop-i : goal.invariant-loop-i

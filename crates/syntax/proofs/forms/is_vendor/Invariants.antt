@@ -1,12 +1,8 @@
 -- Every character passed belongs to a vendor, and none was the colon.
-use mathlib.Core.Path.{◌≡◌, sym, ◌∙◌}
+use mathlib.Core.Path.{◌≡◌}
 use Prim.Native.Nat.{◌-◌}
 use lib.ListN.{length, drop}
 use Rattle.syntax.specs.Forms.{is_vendor, is_vendor_tail}
-use Rattle.syntax.proofs.Laws.Forms.{vendor_none, vendor_first, vendor_stop}
-use Rattle.syntax.proofs.Laws.Forms.{tail_colon, tail_next, tail_stop, tail_end}
-use Rattle.syntax.proofs.Laws.Each.{each_tail}
-use borrow.Author.Tests.{not-true, not-false}
 use Rattle.syntax.proofs.forms.is_vendor.Given as goal
 
 abbrev pub invariant-loop-i : goal.invariant-loop-i

@@ -1,10 +1,7 @@
 -- Every character passed is a letter or a digit.
-use mathlib.Core.Path.{sym, ◌∙◌}
 use Prim.Native.Nat.{◌-◌}
 use lib.ListN.{length}
 use Rattle.syntax.specs.Forms.{Each, is_alphanumeric}
-use Rattle.syntax.proofs.Laws.Each.{each_none, each_next}
-use borrow.Author.Tests.{not-false}
 use Rattle.syntax.proofs.forms.past_alphanumeric.Given as goal
 
 abbrev pub invariant-loop-i : goal.invariant-loop-i

@@ -1,10 +1,8 @@
 -- Every block passed is of letters and digits, and where the last is too, all up to the end.
-use Prim.Native.Nat.{◌-◌}
 use native.Mathlib.Omega.{arith}
 use lib.ListN.{length}
-use Rattle.syntax.specs.Forms.{Each, is_alphanumeric}
+use Rattle.syntax.specs.Forms.{is_alphanumeric}
 use Rattle.syntax.proofs.Laws.Each.{each_none, each_join, each_at}
-use borrow.Author.Tests.{not-false}
 use Rattle.syntax.proofs.forms.past_eights.Goals as goal
 
 pub returns-then-cs-at-lt8 : goal.returns-then-cs-at-lt8

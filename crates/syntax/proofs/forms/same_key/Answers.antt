@@ -1,8 +1,6 @@
 -- No pair of characters passed differs in small letters.
 use mathlib.Core.Path.{sym, ◌∙◌}
-use Prim.Native.Nat.{◌-◌}
-use lib.ListN.{length}
-use Rattle.syntax.proofs.Laws.Same.{Keys, keys_start, keys_next, keys_stop, keys_end, key_lengths}
+use Rattle.syntax.proofs.Laws.Same.{keys_start, keys_next, keys_stop, keys_end, key_lengths}
 use Rattle.syntax.proofs.forms.same_key.Goals as goal
 
 pub returns-then-a-b : goal.returns-then-a-b

@@ -1,8 +1,7 @@
 -- No pair of characters passed differs in small letters.
-use mathlib.Core.Path.{sym, ◌∙◌}
 use Prim.Native.Nat.{◌-◌}
 use lib.ListN.{length}
-use Rattle.syntax.proofs.Laws.Same.{Keys, keys_start, keys_next, keys_stop, keys_end, key_lengths}
+use Rattle.syntax.proofs.Laws.Same.{Keys}
 use Rattle.syntax.proofs.forms.same_key.Given as goal
 
 abbrev pub invariant-loop-i : goal.invariant-loop-i

@@ -1,9 +1,6 @@
 -- No pair of characters passed differs.
 use native.Mathlib.Omega.{arith}
-use mathlib.Core.Path.{◌≡◌, refl, sym, ◌∙◌}
-use Prim.Native.Nat.{◌-◌}
-use lib.ListN.{length, drop}
-use Rattle.syntax.specs.Forms.{same}
+use mathlib.Core.Path.{refl, sym, ◌∙◌}
 use Rattle.syntax.proofs.Laws.Same.{same_lengths, same_next, same_stop, same_end}
 use Rattle.syntax.proofs.forms.same_text.Goals as goal
 

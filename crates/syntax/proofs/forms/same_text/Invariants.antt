@@ -1,10 +1,8 @@
 -- No pair of characters passed differs.
-use native.Mathlib.Omega.{arith}
-use mathlib.Core.Path.{◌≡◌, refl, sym, ◌∙◌}
+use mathlib.Core.Path.{◌≡◌}
 use Prim.Native.Nat.{◌-◌}
 use lib.ListN.{length, drop}
 use Rattle.syntax.specs.Forms.{same}
-use Rattle.syntax.proofs.Laws.Same.{same_lengths, same_next, same_stop, same_end}
 use Rattle.syntax.proofs.forms.same_text.Given as goal
 
 abbrev pub invariant-loop-i : goal.invariant-loop-i

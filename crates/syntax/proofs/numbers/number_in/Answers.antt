@@ -1,9 +1,7 @@
 -- The digits passed made n, and it is small enough for one more.
-use Prim.Native.Nat.{◌-◌}
-use lib.ListN.{length}
 use mathlib.Core.Path.{ap, sym, ◌∙◌}
 use Rattle.syntax.specs.Told.{told_number}
-use Rattle.syntax.proofs.Laws.Numbers.{number_none, number_zero, number_leading, Counted, counted_start}
+use Rattle.syntax.proofs.Laws.Numbers.{number_none, number_zero, number_leading, counted_start}
 use Rattle.syntax.proofs.Laws.Numbers.{counted_next, counted_stop, counted_end}
 use Rattle.syntax.proofs.numbers.number_in.Goals as goal
 

@@ -1,11 +1,8 @@
 -- Each turn reads from the place where nothing was stored yet, and stores one symbol before it.
 use native.Mathlib.Omega.{arith}
-use Prim.Native.Nat.{◌-◌}
-use lib.ListN.{length}
 use mathlib.Core.Path.{sym, ◌∙◌}
-use borrow.Author.Tests.{not-true, not-false}
 use Rattle.syntax.proofs.Laws.Symbols.{says_on}
-use Rattle.syntax.proofs.Laws.Converting.{Sofar, sofar_start, sofar_length}
+use Rattle.syntax.proofs.Laws.Converting.{sofar_start, sofar_length}
 use Rattle.syntax.proofs.Laws.Converting.{sofar_next, sofar_right, sofar_end, converted_wrong}
 use Rattle.syntax.proofs.symbols.escaped_symbols.Goals as goal
 

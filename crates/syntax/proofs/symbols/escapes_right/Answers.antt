@@ -1,10 +1,6 @@
 -- No escape passed is wrong.
 use native.Mathlib.Omega.{arith}
-use mathlib.Core.Path.{◌≡◌, refl, sym, ◌∙◌}
-use Prim.Native.Nat.{◌-◌}
-use lib.ListN.{length, drop}
-use Rattle.syntax.specs.Forms.{symbols_of}
-use Rattle.syntax.specs.Told.{is_read}
+use mathlib.Core.Path.{refl, sym, ◌∙◌}
 use Rattle.syntax.proofs.Laws.Symbols.{says_on, right_next, right_stop, right_end}
 use Rattle.syntax.proofs.symbols.escapes_right.Goals as goal
 

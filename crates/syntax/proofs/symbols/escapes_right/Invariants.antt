@@ -1,11 +1,9 @@
 -- No escape passed is wrong.
-use native.Mathlib.Omega.{arith}
-use mathlib.Core.Path.{◌≡◌, refl, sym, ◌∙◌}
+use mathlib.Core.Path.{◌≡◌}
 use Prim.Native.Nat.{◌-◌}
 use lib.ListN.{length, drop}
 use Rattle.syntax.specs.Forms.{symbols_of}
 use Rattle.syntax.specs.Told.{is_read}
-use Rattle.syntax.proofs.Laws.Symbols.{says_on, right_next, right_stop, right_end}
 use Rattle.syntax.proofs.symbols.escapes_right.Given as goal
 
 abbrev pub invariant-loop-i : goal.invariant-loop-i

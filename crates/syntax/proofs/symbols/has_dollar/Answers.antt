@@ -1,9 +1,8 @@
 -- As long as none was found, none of those passed is a dollar.
 use mathlib.Core.Path.{◌≡◌}
-use mathlib.Core.Bool.{false}
-use Prim.Native.Nat.{ℕ, ◌≤◌, ◌<◌, ◌-◌}
+use Prim.Native.Nat.{ℕ}
 use native.Mathlib.Omega.{arith}
-use lib.ListN.{length, get_or}
+use lib.ListN.{get_or}
 use borrow.Author.Tests.{eqb-false}
 use Rattle.chars.proofs.Laws.Tests.{neither, each_before}
 use borrow.Author.Rules.{rules}

@@ -2,11 +2,7 @@
 use mathlib.Core.Path.{◌≡◌}
 use mathlib.Core.Bool.{false}
 use Prim.Native.Nat.{ℕ, ◌≤◌, ◌<◌, ◌-◌}
-use native.Mathlib.Omega.{arith}
 use lib.ListN.{length, get_or}
-use borrow.Author.Tests.{eqb-false}
-use Rattle.chars.proofs.Laws.Tests.{neither, each_before}
-use borrow.Author.Rules.{rules}
 use Rattle.syntax.proofs.symbols.has_dollar.Given as goal
 
 abbrev pub invariant-loop-i : goal.invariant-loop-i

@@ -1,6 +1,4 @@
 -- Each character is its own symbol, or a wildcard.
-use mathlib.Core.Path.{◌∙◌, ap}
-use lib.ListN.{length}
 use Rattle.syntax.proofs.Laws.Converting.{plain_wild, plain_still}
 use Rattle.syntax.proofs.symbols.plain_symbols.Goals as goal
 

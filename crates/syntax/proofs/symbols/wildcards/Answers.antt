@@ -1,8 +1,6 @@
 -- The places passed are converted.
 use native.Mathlib.Omega.{arith}
-use Prim.Native.Nat.{◌-◌}
-use lib.ListN.{length}
-use Rattle.syntax.proofs.Laws.Converting.{Turned, turned_start, turned_same, turned_more, turned_end}
+use Rattle.syntax.proofs.Laws.Converting.{turned_start, turned_same, turned_more, turned_end}
 use Rattle.syntax.proofs.symbols.wildcards.Goals as goal
 
 pub loop-i-init : goal.loop-i-init

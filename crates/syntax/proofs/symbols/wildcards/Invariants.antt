@@ -1,8 +1,7 @@
 -- The places passed are converted.
-use native.Mathlib.Omega.{arith}
 use Prim.Native.Nat.{◌-◌}
 use lib.ListN.{length}
-use Rattle.syntax.proofs.Laws.Converting.{Turned, turned_start, turned_same, turned_more, turned_end}
+use Rattle.syntax.proofs.Laws.Converting.{Turned}
 use Rattle.syntax.proofs.symbols.wildcards.Given as goal
 
 abbrev pub invariant-loop-i : goal.invariant-loop-i

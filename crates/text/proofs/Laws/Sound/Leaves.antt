@@ -6,7 +6,7 @@ use native.Mathlib.Omega.{arith}
 use lib.ListN.{length, get_or}
 use Rattle.text.specs.Json.{Json, number, string, depth, Number, unsigned, negative, Spelt, a_value, Reads}
 use Rattle.text.specs.Json.{a_number, a_string}
-use Rattle.text.specs.Machine.{Item, go, byte, text, integer, value, next, move}
+use Rattle.text.specs.Machine.{Item, go, byte, text, integer, value, move}
 use Rattle.text.proofs.Laws.Places.{Alive}
 use Rattle.text.proofs.Laws.Parts.{spelt_none, spelt_cons}
 use Rattle.text.proofs.Laws.Taking.Items.{Took, alive_takes, alive_alike, took_cons, alive_byte}

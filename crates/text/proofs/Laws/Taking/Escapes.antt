@@ -9,7 +9,7 @@ use lib.ListN.{length, get_or, replicate}
 use Rattle.chars.specs.Base.{At}
 use Rattle.chars.specs.Strings.{Unit, plain, coded, Short, quote, reverse_solidus, solidus, backspace, form_feed}
 use Rattle.chars.specs.Strings.{line_feed, carriage_return, tab, Hex, digit, upper, lower, Char, escaped, hexed}
-use Rattle.text.specs.Machine.{Item, bad, hex, escape, high, move, optional}
+use Rattle.text.specs.Machine.{Item, bad, hex, escape, move, optional}
 use Rattle.text.proofs.Laws.Places.{Alive, alive_inside}
 use Rattle.text.proofs.Laws.Parts.{spelt_one, spelt_cons}
 use Rattle.text.proofs.Laws.Chars.{short_is, hex_is}

@@ -1,9 +1,5 @@
 -- As long as none was found, no quote stands among the bytes passed.
-use mathlib.Core.Path.{◌≡◌}
-use mathlib.Core.Bool.{false}
-use Prim.Native.Nat.{◌≤◌, ◌-◌, ◌+◌}
 use native.Mathlib.Omega.{arith}
-use Rattle.text.specs.Seeking.{Nears}
 use Rattle.chars.proofs.Laws.Tests.{neither}
 use Rattle.text.proofs.Laws.Seeking.{nears_none, nears_other, nears_at}
 use borrow.Author.Rules.{rules}

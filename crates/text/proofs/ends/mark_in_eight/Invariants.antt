@@ -2,11 +2,7 @@
 use mathlib.Core.Path.{◌≡◌}
 use mathlib.Core.Bool.{false}
 use Prim.Native.Nat.{◌≤◌, ◌-◌, ◌+◌}
-use native.Mathlib.Omega.{arith}
 use Rattle.text.specs.Seeking.{Nears}
-use Rattle.chars.proofs.Laws.Tests.{neither}
-use Rattle.text.proofs.Laws.Seeking.{nears_none, nears_other, nears_at}
-use borrow.Author.Rules.{rules}
 use Rattle.text.proofs.ends.mark_in_eight.Given as goal
 
 abbrev pub invariant-loop-j : goal.invariant-loop-j

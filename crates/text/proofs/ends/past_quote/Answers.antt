@@ -1,8 +1,5 @@
 -- No quote that ends the string is passed, and one comes, since the string is whole.
-use Prim.Native.Nat.{◌-◌}
 use native.Mathlib.Omega.{arith}
-use lib.ListN.{length}
-use Rattle.text.specs.Seeking.{Nears}
 use Rattle.text.proofs.Laws.Seeking.{quoting_high, nears_inside, pair_inside, nears_pair, nears_other, nears_quote}
 use borrow.Author.Rules.{rules}
 use Rattle.text.proofs.ends.past_quote.Goals as goal

@@ -1,9 +1,7 @@
 -- Every block passed has no mark.
 use Prim.Native.Nat.{◌-◌}
-use native.Mathlib.Omega.{arith}
 use lib.ListN.{length}
 use Rattle.text.specs.Seeking.{Nears}
-use Rattle.text.proofs.Laws.Seeking.{nears_none, nears_seq}
 use Rattle.text.proofs.ends.unmarked_eights.Given as goal
 
 abbrev pub invariant-loop-i : goal.invariant-loop-i

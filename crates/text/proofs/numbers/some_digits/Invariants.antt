@@ -1,13 +1,9 @@
 -- What was passed is digits, and at the end the item is done: before another byte, or with the text.
-use mathlib.Core.Path.{refl}
 use mathlib.Core.List.{[], ◌∷◌}
 use Prim.Native.Nat.{◌-◌}
-use native.Mathlib.Omega.{arith}
 use lib.ListN.{length}
 use Rattle.text.specs.Reading.{Leads}
-use Rattle.text.specs.Machine.{digits, optional}
-use Rattle.text.proofs.Laws.Reading.{stay, seq, takes, passes, skips}
-use Rattle.text.proofs.Laws.Moves.Numbers.{digits_is, digits_under, digits_over}
+use Rattle.text.specs.Machine.{digits}
 use Rattle.text.proofs.numbers.some_digits.Given as goal
 
 abbrev pub invariant-loop-i : goal.invariant-loop-i

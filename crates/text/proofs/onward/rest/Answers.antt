@@ -1,10 +1,7 @@
 -- Behind each inner value the same is owed as behind the one before.
 use mathlib.Core.List.{[], ◌∷◌}
-use Prim.Native.Nat.{◌-◌}
 use native.Mathlib.Omega.{arith}
-use lib.ListN.{length}
 use Rattle.text.specs.Machine.{ws, value, next}
-use Rattle.text.specs.Reading.{Leads, Done}
 use Rattle.text.proofs.Laws.Reading.{stay, past, failed}
 use Rattle.text.proofs.Laws.Onward.{rest_closed, rest_stops, rest_inner, rest_more, rest_less}
 use Rattle.text.proofs.onward.rest.Goals as goal

@@ -1,12 +1,9 @@
 -- Behind each inner value the same is owed as behind the one before.
 use mathlib.Core.List.{[], ◌∷◌}
 use Prim.Native.Nat.{◌-◌}
-use native.Mathlib.Omega.{arith}
 use lib.ListN.{length}
-use Rattle.text.specs.Machine.{ws, value, next}
-use Rattle.text.specs.Reading.{Leads, Done}
-use Rattle.text.proofs.Laws.Reading.{stay, past, failed}
-use Rattle.text.proofs.Laws.Onward.{rest_closed, rest_stops, rest_inner, rest_more, rest_less}
+use Rattle.text.specs.Machine.{ws, next}
+use Rattle.text.specs.Reading.{Leads}
 use Rattle.text.proofs.onward.rest.Given as goal
 
 abbrev pub invariant-loop-m : goal.invariant-loop-m

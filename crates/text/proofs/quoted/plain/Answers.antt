@@ -1,10 +1,5 @@
 -- Behind the blocks, be it in the next or behind the last, every byte passed is not special.
-use mathlib.Core.List.{[], ◌∷◌}
-use Prim.Native.Nat.{◌≤◌, ◌-◌}
 use native.Mathlib.Omega.{arith}
-use lib.ListN.{length}
-use Rattle.text.specs.Machine.{text}
-use Rattle.text.specs.Reading.{Leads}
 use Rattle.text.proofs.Laws.Plain.{plain_more}
 use Rattle.text.proofs.Laws.Reading.{seq}
 use Rattle.text.proofs.quoted.plain.Goals as goal

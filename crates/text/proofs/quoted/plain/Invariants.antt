@@ -1,12 +1,9 @@
 -- Behind the blocks, be it in the next or behind the last, every byte passed is not special.
 use mathlib.Core.List.{[], ◌∷◌}
-use Prim.Native.Nat.{◌≤◌, ◌-◌}
-use native.Mathlib.Omega.{arith}
+use Prim.Native.Nat.{◌-◌}
 use lib.ListN.{length}
 use Rattle.text.specs.Machine.{text}
 use Rattle.text.specs.Reading.{Leads}
-use Rattle.text.proofs.Laws.Plain.{plain_more}
-use Rattle.text.proofs.Laws.Reading.{seq}
 use Rattle.text.proofs.quoted.plain.Given as goal
 
 abbrev pub invariant-loop-i : goal.invariant-loop-i

@@ -1,11 +1,9 @@
 -- Every block passed has nothing special.
 use mathlib.Core.List.{[], ◌∷◌}
-use Prim.Native.Nat.{◌≤◌, ◌-◌}
-use native.Mathlib.Omega.{arith}
+use Prim.Native.Nat.{◌-◌}
 use lib.ListN.{length}
 use Rattle.text.specs.Machine.{text}
 use Rattle.text.specs.Reading.{Leads}
-use Rattle.text.proofs.Laws.Reading.{stay, seq}
 use Rattle.text.proofs.quoted.plain_eights.Given as goal
 
 abbrev pub invariant-loop-i : goal.invariant-loop-i

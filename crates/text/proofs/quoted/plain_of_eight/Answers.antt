@@ -1,9 +1,5 @@
 -- Every byte passed is not special.
-use mathlib.Core.List.{[], ◌∷◌}
-use Prim.Native.Nat.{◌≤◌, ◌-◌, ◌+◌}
 use native.Mathlib.Omega.{arith}
-use Rattle.text.specs.Machine.{text}
-use Rattle.text.specs.Reading.{Leads}
 use Rattle.text.proofs.Laws.Reading.{stay}
 use Rattle.text.proofs.Laws.Plain.{plain_more, plain_at}
 use borrow.Author.Rules.{rules}

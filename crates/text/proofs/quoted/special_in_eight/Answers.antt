@@ -1,11 +1,5 @@
 -- As long as none was found, the rest of the string is owed behind the bytes passed.
-use mathlib.Core.Path.{◌≡◌}
-use mathlib.Core.Bool.{false}
-use mathlib.Core.List.{[], ◌∷◌}
-use Prim.Native.Nat.{◌≤◌, ◌-◌, ◌+◌}
 use native.Mathlib.Omega.{arith}
-use Rattle.text.specs.Machine.{text}
-use Rattle.text.specs.Reading.{Leads}
 use Rattle.text.proofs.Laws.Reading.{stay}
 use Rattle.chars.proofs.Laws.Tests.{neither}
 use Rattle.text.proofs.Laws.Plain.{plain_more, plain_at}

@@ -3,13 +3,8 @@ use mathlib.Core.Path.{◌≡◌}
 use mathlib.Core.Bool.{false}
 use mathlib.Core.List.{[], ◌∷◌}
 use Prim.Native.Nat.{◌≤◌, ◌-◌, ◌+◌}
-use native.Mathlib.Omega.{arith}
 use Rattle.text.specs.Machine.{text}
 use Rattle.text.specs.Reading.{Leads}
-use Rattle.text.proofs.Laws.Reading.{stay}
-use Rattle.chars.proofs.Laws.Tests.{neither}
-use Rattle.text.proofs.Laws.Plain.{plain_more, plain_at}
-use borrow.Author.Rules.{rules}
 use Rattle.text.proofs.quoted.special_in_eight.Given as goal
 
 abbrev pub invariant-loop-j : goal.invariant-loop-j

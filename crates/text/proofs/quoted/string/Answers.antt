@@ -1,11 +1,8 @@
 -- The rest of the string is owed at `i`; each turn passes characters, and takes one that the quick way left.
 use mathlib.Core.Path.{refl}
 use mathlib.Core.List.{[], ◌∷◌}
-use Prim.Native.Nat.{◌-◌}
 use native.Mathlib.Omega.{arith}
-use lib.ListN.{length}
 use Rattle.text.specs.Machine.{text, char, optional}
-use Rattle.text.specs.Reading.{Leads}
 use Rattle.text.proofs.Laws.Reading.{stay, seq, frame, fall, past, failed, takes, alike, stops}
 use Rattle.text.proofs.Laws.Moves.Strings.{text_quote}
 use Rattle.text.proofs.Laws.Moves.Owing.{text_one}

@@ -1,10 +1,7 @@
 -- The bytes of w from `j` on are still owed.
 use mathlib.Core.Path.{refl}
-use mathlib.Core.List.{[], map}
-use Prim.Native.Nat.{◌≤◌, ◌-◌}
+use mathlib.Core.List.{[]}
 use native.Mathlib.Omega.{arith}
-use lib.ListN.{length, drop}
-use Rattle.text.specs.Reading.{Leads}
 use Rattle.text.specs.Machine.{byte, optional}
 use Rattle.text.proofs.Laws.Reading.{stay, seq, fall, takes, refuses, stops, letter, spelt}
 use Rattle.text.proofs.Laws.Moves.Bytes.{byte_is, byte_not}
@@ -25,13 +22,12 @@ returns-then-s-i-2 c =
     (refuses (byte _) _ c.if-s-i.false (byte_not _ _ c.if-s-i-2.true))
 
 pub loop-j-preserved : goal.loop-j-preserved
-loop-j-preserved c =
-    (
-      omega arith,
-      seq c.loop-j.invariant.1
-          (seq (letter _ _ c.loop-j-test.true c.loop-j.invariant.1.high)
-          (takes (byte _) _ [] c.if-s-i.false (byte_is _ _ c.if-s-i-2.false))),
-    )
+loop-j-preserved c = (
+  omega arith,
+  seq c.loop-j.invariant.1
+      (seq (letter _ _ c.loop-j-test.true c.loop-j.invariant.1.high)
+      (takes (byte _) _ [] c.if-s-i.false (byte_is _ _ c.if-s-i-2.false))),
+)
 
 pub returns : goal.returns
 returns c =

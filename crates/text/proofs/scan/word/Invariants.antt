@@ -1,13 +1,9 @@
 -- The bytes of w from `j` on are still owed.
-use mathlib.Core.Path.{refl}
-use mathlib.Core.List.{[], map}
+use mathlib.Core.List.{map}
 use Prim.Native.Nat.{◌≤◌, ◌-◌}
-use native.Mathlib.Omega.{arith}
 use lib.ListN.{length, drop}
 use Rattle.text.specs.Reading.{Leads}
-use Rattle.text.specs.Machine.{byte, optional}
-use Rattle.text.proofs.Laws.Reading.{stay, seq, fall, takes, refuses, stops, letter, spelt}
-use Rattle.text.proofs.Laws.Moves.Bytes.{byte_is, byte_not}
+use Rattle.text.specs.Machine.{byte}
 use Rattle.text.proofs.scan.word.Given as goal
 
 abbrev pub invariant-loop-j : goal.invariant-loop-j

@@ -1,14 +1,9 @@
 -- The rest of the string is owed at `i`; each turn takes one character that is special, and passes what is plain.
-use mathlib.Core.Path.{refl}
 use mathlib.Core.List.{[], ◌∷◌}
 use Prim.Native.Nat.{◌-◌}
-use native.Mathlib.Omega.{arith}
 use lib.ListN.{length}
-use Rattle.text.specs.Machine.{text, char}
+use Rattle.text.specs.Machine.{text}
 use Rattle.text.specs.Reading.{Leads}
-use Rattle.text.proofs.Laws.Reading.{stay, seq, frame, alike}
-use Rattle.text.proofs.Laws.Moves.Owing.{text_one}
-use Rattle.text.proofs.Laws.Places.{char_grows}
 use Rattle.text.proofs.special.characters.Given as goal
 
 abbrev pub invariant-loop-i : goal.invariant-loop-i

@@ -1,8 +1,6 @@
 -- So many digits are still owed as `left` says.
 use mathlib.Core.List.{[]}
 use native.Mathlib.Omega.{arith}
-use lib.ListN.{replicate}
-use Rattle.text.specs.Reading.{Leads}
 use Rattle.text.specs.Machine.{hex}
 use Rattle.text.proofs.Laws.Reading.{stay, seq, takes, peel, spent}
 use Rattle.text.proofs.Laws.Moves.Strings.{hex_digit_lem, hex_upper, hex_lower}
@@ -38,9 +36,9 @@ pub loop-left-preserved : goal.loop-left-preserved
 loop-left-preserved c =
     let owed = seq c.loop-left.invariant (peel hex c.loop-left.left (omega arith) c.loop-left.invariant.high) in
     elim c.in-48-to-57-1.branch [
-      then-b-lt58 w ↦ seq owed (takes hex _ [] c.if-s-i.false (hex_digit_lem _ (omega arith) (omega arith)))
-    | else-b-lt58+else-b-lt65+then-b-lt71 w ↦
-        seq owed (takes hex _ [] c.if-s-i.false (hex_upper _ (omega arith) (omega arith)))
-    | else-b-lt58+else-b-lt65+else-b-lt71+else-b-lt97+then-b-lt103 w ↦
-        seq owed (takes hex _ [] c.if-s-i.false (hex_lower _ (omega arith) (omega arith)))
+      | then-b-lt58 w ↦ seq owed (takes hex _ [] c.if-s-i.false (hex_digit_lem _ (omega arith) (omega arith)))
+      | else-b-lt58+else-b-lt65+then-b-lt71 w ↦
+          seq owed (takes hex _ [] c.if-s-i.false (hex_upper _ (omega arith) (omega arith)))
+      | else-b-lt58+else-b-lt65+else-b-lt71+else-b-lt97+then-b-lt103 w ↦
+          seq owed (takes hex _ [] c.if-s-i.false (hex_lower _ (omega arith) (omega arith)))
     ]

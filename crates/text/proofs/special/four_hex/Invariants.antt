@@ -1,13 +1,7 @@
 -- So many digits are still owed as `left` says.
-use mathlib.Core.List.{[]}
-use mathlib.Core.Logic.{⊎_elim}
-use native.Mathlib.Omega.{arith}
 use lib.ListN.{replicate}
 use Rattle.text.specs.Reading.{Leads}
 use Rattle.text.specs.Machine.{hex}
-use Rattle.text.proofs.Laws.Reading.{stay, seq, takes, peel, spent}
-use Rattle.text.proofs.Laws.Moves.Strings.{hex_digit_lem, hex_upper, hex_lower}
-use Rattle.text.proofs.Laws.Quick.{none, some}
 use Rattle.text.proofs.special.four_hex.Given as goal
 
 abbrev pub invariant-loop-left : goal.invariant-loop-left

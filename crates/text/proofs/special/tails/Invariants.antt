@@ -1,12 +1,8 @@
 -- The byte due next is from `low` to `high`, and `left` tails are owed behind it.
-use mathlib.Core.List.{[], ◌∷◌}
-use native.Mathlib.Omega.{arith}
+use mathlib.Core.List.{◌∷◌}
 use lib.ListN.{replicate}
 use Rattle.text.specs.Reading.{Leads}
 use Rattle.text.specs.Machine.{range}
-use Rattle.text.proofs.Laws.Reading.{stay, seq, takes, peel, spent}
-use Rattle.text.proofs.Laws.Moves.Bytes.{range_is}
-use Rattle.text.proofs.Laws.Quick.{none, some}
 use Rattle.text.proofs.special.tails.Given as goal
 
 abbrev pub invariant-loop-i : goal.invariant-loop-i

@@ -1,10 +1,7 @@
 -- The bytes passed open and close nothing, and a bracket is open, so the text goes on.
 use Prim.Native.Nat.{◌-◌}
-use native.Mathlib.Omega.{arith}
 use lib.ListN.{length}
 use Rattle.text.specs.Skipping.{Idles}
-use Rattle.text.proofs.Laws.Skipping.Walking.{idles_none, idles_more, idles_inside}
-use borrow.Author.Rules.{rules}
 use Rattle.text.proofs.walk.past_idle.Given as goal
 
 abbrev pub invariant-loop-i : goal.invariant-loop-i

@@ -3,13 +3,8 @@ use mathlib.Core.Path.{◌≡◌}
 use mathlib.Core.Bool.{true}
 use mathlib.Core.List.{[], ◌∷◌}
 use Prim.Native.Nat.{◌≤◌, ◌-◌, ◌+◌}
-use native.Mathlib.Omega.{arith}
 use Rattle.text.specs.Machine.{ws}
 use Rattle.text.specs.Reading.{Leads}
-use Rattle.chars.proofs.Laws.Tests.{each_true}
-use Rattle.text.proofs.Laws.Reading.{stay}
-use Rattle.text.proofs.Laws.Plain.{blank_more, blank_at, only_space}
-use borrow.Author.Rules.{rules}
 use Rattle.text.proofs.white.four_spaces.Given as goal
 
 abbrev pub invariant-loop-j : goal.invariant-loop-j

@@ -1,12 +1,9 @@
 -- Every block passed is white space.
 use mathlib.Core.List.{[], ◌∷◌}
 use Prim.Native.Nat.{◌-◌}
-use native.Mathlib.Omega.{arith}
 use lib.ListN.{length}
-use borrow.Author.Tests.{not-false}
 use Rattle.text.specs.Machine.{ws}
 use Rattle.text.specs.Reading.{Leads}
-use Rattle.text.proofs.Laws.Reading.{stay, seq}
 use Rattle.text.proofs.white.spaces.Given as goal
 
 abbrev pub invariant-loop-i : goal.invariant-loop-i

@@ -1,5 +1,4 @@
 -- A number's first half is marked, and a text's length is not.
-use mathlib.Core.Path.{◌∙◌}
 use native.Mathlib.Omega.{arith}
 use Rattle.held.proofs.Laws.Runs.{value_inside}
 use Rattle.held.proofs.Laws.Places.{texted}

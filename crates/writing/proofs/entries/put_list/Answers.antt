@@ -1,13 +1,11 @@
 -- Each turn puts one entry behind those before it; whichever entries lie at the place are the ones put.
 use Prim.{tt}
 use mathlib.Core.Path.{refl, ◌∙◌}
-use Prim.Native.Nat.{◌+◌, ◌-◌}
 use native.Mathlib.Omega.{arith}
-use Rattle.held.specs.Held.{held_value}
 use Rattle.held.proofs.Laws.Runs.{lies_inside}
-use Rattle.writing.specs.Bytes.{listed, entry_bytes, list_bytes}
+use Rattle.writing.specs.Bytes.{listed, list_bytes}
 use Rattle.writing.proofs.Laws.Showing.{adds_then}
-use Rattle.writing.proofs.Laws.Telling.{Tellings, Freely, telling_start, telling_lying, telling_next}
+use Rattle.writing.proofs.Laws.Telling.{telling_start, telling_lying, telling_next}
 use Rattle.writing.proofs.Laws.Telling.{telling_end, list_told}
 use Rattle.writing.proofs.Laws.Lying.{listed_piece}
 use Rattle.writing.proofs.entries.put_list.Goals as goal

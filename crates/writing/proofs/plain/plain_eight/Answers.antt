@@ -1,6 +1,6 @@
 -- As many as were passed are plain where they were all counted.
 use mathlib.Core.Path.{◌≡◌, subst}
-use Prim.Native.Nat.{ℕ, ◌≤◌, ◌-◌, ◌+◌}
+use Prim.Native.Nat.{ℕ, ◌+◌}
 use native.Mathlib.Omega.{arith}
 use borrow.Author.Tests.{eqb-true}
 use Rattle.chars.specs.Base.{part}
@@ -13,14 +13,13 @@ pub loop-j-init : goal.loop-j-init
 loop-j-init c = (search rules, search rules, λ e. plain_none c.args.ys.now c.args.i)
 
 pub loop-j-preserved : goal.loop-j-preserved
-loop-j-preserved c =
-    (
-      omega arith,
-      omega (arith, c.loop-j.invariant.1, c.count-n.ensures.0),
-      λ e. plain_next c.args.ys.now c.args.i c.loop-j.j (omega (arith, c.requires))
-          (c.loop-j.invariant.2 (omega (arith, e, c.loop-j.invariant.1, c.count-n.ensures.0)))
-          (c.count-n.ensures.1 (omega (arith, e, c.loop-j.invariant.1, c.count-n.ensures.0))),
-    )
+loop-j-preserved c = (
+  omega arith,
+  omega (arith, c.loop-j.invariant.1, c.count-n.ensures.0),
+  λ e. plain_next c.args.ys.now c.args.i c.loop-j.j (omega (arith, c.requires))
+      (c.loop-j.invariant.2 (omega (arith, e, c.loop-j.invariant.1, c.count-n.ensures.0)))
+      (c.count-n.ensures.1 (omega (arith, e, c.loop-j.invariant.1, c.count-n.ensures.0))),
+)
 
 pub returns : goal.returns
 returns c = λ e.

@@ -1,12 +1,8 @@
 -- As many as were passed are plain where they were all counted.
-use mathlib.Core.Path.{◌≡◌, subst}
-use Prim.Native.Nat.{ℕ, ◌≤◌, ◌-◌, ◌+◌}
-use native.Mathlib.Omega.{arith}
-use borrow.Author.Tests.{eqb-true}
+use mathlib.Core.Path.{◌≡◌}
+use Prim.Native.Nat.{◌≤◌, ◌-◌, ◌+◌}
 use Rattle.chars.specs.Base.{part}
 use Rattle.writing.specs.Plain.{AllPlain}
-use Rattle.writing.proofs.Laws.Plain.{plain_none, plain_next}
-use borrow.Author.Rules.{rules}
 use Rattle.writing.proofs.plain.plain_eight.Given as goal
 
 abbrev pub invariant-loop-j : goal.invariant-loop-j

@@ -1,6 +1,6 @@
 -- Each turn puts one character behind those before it, until they are eight.
 use mathlib.Core.Path.{◌≡◌, subst}
-use Prim.Native.Nat.{ℕ, ◌≤◌, ◌-◌, ◌+◌}
+use Prim.Native.Nat.{ℕ, ◌+◌}
 use native.Mathlib.Omega.{arith}
 use Rattle.chars.specs.Base.{part}
 use Rattle.writing.specs.Showing.{Adds}
@@ -23,12 +23,11 @@ bounds-out-at c =
     omega (arith, c.loop-j.invariant.1.size, c.requires.0)
 
 pub loop-j-preserved : goal.loop-j-preserved
-loop-j-preserved c =
-    (
-      omega arith,
-      bytes_next c.args.ys.now c.args.i c.loop-j.j c.loop-j.invariant.1 (omega (arith, c.requires.1))
-          (omega (arith, c.requires.0, c.loop-j.invariant.1.size)),
-    )
+loop-j-preserved c = (
+  omega arith,
+  bytes_next c.args.ys.now c.args.i c.loop-j.j c.loop-j.invariant.1 (omega (arith, c.requires.1))
+      (omega (arith, c.requires.0, c.loop-j.invariant.1.size)),
+)
 
 pub shape_of-out : goal.shape_of-out
 shape_of-out c = c.loop-j.invariant.1.size

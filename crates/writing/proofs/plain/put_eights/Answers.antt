@@ -1,9 +1,7 @@
 -- Each turn puts eight characters that were tested and for which there is room.
-use Prim.Native.Nat.{◌≤◌, ◌-◌, ◌+◌}
+use Prim.Native.Nat.{◌≤◌, ◌+◌}
 use native.Mathlib.Omega.{arith}
 use lib.ListN.{length}
-use borrow.Author.Tests.{not-false}
-use Rattle.writing.specs.Plain.{PlainPut}
 use Rattle.writing.proofs.Laws.Plain.{put_none, put_then}
 use Rattle.writing.proofs.plain.put_eights.Goals as goal
 
@@ -45,12 +43,11 @@ pub overflow_add-i-in-loop-n : goal.overflow_add-i-in-loop-n
 overflow_add-i-in-loop-n c = omega (arith, c.loop-n.invariant.inside)
 
 pub put_eight-requires : goal.put_eight-requires
-put_eight-requires c =
-    (
-      omega (arith, c.if-out-at-lt8.false, (let z : c.args.at + c.loop-n.n ≤ length c.loop-n.out = omega (arith, c.loop-n.invariant.room, c.loop-n.invariant.adds.size) in z)),
-      omega (arith, c.loop-n-test.true, c.loop-n.invariant.inside),
-      c.plain_eight.ensures c.if-not-plain_eight.false,
-    )
+put_eight-requires c = (
+  omega (arith, c.if-out-at-lt8.false, (let z : c.args.at + c.loop-n.n ≤ length c.loop-n.out = omega (arith, c.loop-n.invariant.room, c.loop-n.invariant.adds.size) in z)),
+  omega (arith, c.loop-n-test.true, c.loop-n.invariant.inside),
+  c.plain_eight.ensures c.if-not-plain_eight.false,
+)
 
 pub overflow_add-n : goal.overflow_add-n
 overflow_add-n c = omega (arith, (let z : c.args.i + c.loop-n.n + 8 ≤ length c.args.ys.now = omega (arith, c.loop-n-test.true, c.loop-n.invariant.inside) in z))

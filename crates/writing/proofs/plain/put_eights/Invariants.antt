@@ -1,10 +1,7 @@
 -- Each turn puts eight characters that were tested and for which there is room.
-use Prim.Native.Nat.{◌≤◌, ◌-◌, ◌+◌}
-use native.Mathlib.Omega.{arith}
+use Prim.Native.Nat.{◌-◌}
 use lib.ListN.{length}
-use borrow.Author.Tests.{not-false}
 use Rattle.writing.specs.Plain.{PlainPut}
-use Rattle.writing.proofs.Laws.Plain.{put_none, put_then}
 use Rattle.writing.proofs.plain.put_eights.Given as goal
 
 abbrev pub invariant-loop-n : goal.invariant-loop-n

@@ -1,10 +1,7 @@
 -- Behind what was put by eights each turn puts one character that was tested and for which there is room.
-use mathlib.Core.List.{List}
-use Prim.Native.Nat.{ℕ, ◌-◌, ◌≤◌}
+use Prim.Native.Nat.{◌≤◌}
 use native.Mathlib.Omega.{arith}
 use lib.ListN.{length}
-use borrow.Author.Tests.{not-false}
-use Rattle.writing.specs.Plain.{PlainPut}
 use Rattle.writing.proofs.Laws.Plain.{put_next}
 use Rattle.writing.proofs.plain.put_ones.Goals as goal
 

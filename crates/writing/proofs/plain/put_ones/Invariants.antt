@@ -1,11 +1,8 @@
 -- Behind what was put by eights each turn puts one character that was tested and for which there is room.
 use mathlib.Core.List.{List}
-use Prim.Native.Nat.{ℕ, ◌-◌, ◌≤◌}
-use native.Mathlib.Omega.{arith}
+use Prim.Native.Nat.{ℕ, ◌-◌}
 use lib.ListN.{length}
-use borrow.Author.Tests.{not-false}
 use Rattle.writing.specs.Plain.{PlainPut}
-use Rattle.writing.proofs.Laws.Plain.{put_next}
 use Rattle.writing.proofs.plain.put_ones.Given as goal
 
 abbrev pub invariant-loop-n : goal.invariant-loop-n

@@ -1,12 +1,10 @@
 -- Each turn puts one statement behind those before it.
 use Prim.{tt}
 use mathlib.Core.Path.{refl, ◌∙◌}
-use Prim.Native.Nat.{◌-◌}
 use native.Mathlib.Omega.{arith}
-use Rattle.held.specs.Held.{held_statement}
-use Rattle.writing.specs.Bytes.{listed, statement_bytes}
+use Rattle.writing.specs.Bytes.{listed}
 use Rattle.writing.proofs.Laws.Showing.{adds_as, adds_then}
-use Rattle.writing.proofs.Laws.Telling.{Tellings, Freely, telling_start, telling_lying, telling_next}
+use Rattle.writing.proofs.Laws.Telling.{telling_start, telling_lying, telling_next}
 use Rattle.writing.proofs.Laws.Telling.{telling_end, list_told}
 use Rattle.writing.proofs.Laws.Lying.{listed_piece, policy_list, policy_lies}
 use Rattle.held.proofs.Laws.Runs.{lies_inside}

@@ -1,10 +1,7 @@
 -- Bytes that do not fit are too much; of those that do each turn stores one.
-use mathlib.Core.Path.{◌≡◌}
-use Prim.Native.Nat.{◌≤◌, ◌-◌, ◌+◌}
 use native.Mathlib.Omega.{arith}
-use lib.ListN.{length}
 use Rattle.writing.proofs.Laws.Showing.{adds_over, byte_in}
-use Rattle.writing.proofs.Laws.Each.{itself, Each, each_start, each_next, each_end, bytes_each}
+use Rattle.writing.proofs.Laws.Each.{itself, each_start, each_next, each_end, bytes_each}
 use borrow.Author.Rules.{rules}
 use Rattle.writing.proofs.sink.put_bytes.Goals as goal
 
@@ -18,12 +15,11 @@ pub loop-i-init : goal.loop-i-init
 loop-i-init c = (search rules, search rules, each_start itself _ _ _)
 
 pub loop-i-preserved : goal.loop-i-preserved
-loop-i-preserved c =
-    (
-      omega arith,
-      omega (arith, c.loop-i.invariant.1),
-      each_next itself c.loop-i.invariant.2 c.loop-i-test.true (byte_in _ (omega (arith, c.loop-i-test.true, c.loop-i.invariant.1, c.loop-i.invariant.2.adds.size))),
-    )
+loop-i-preserved c = (
+  omega arith,
+  omega (arith, c.loop-i.invariant.1),
+  each_next itself c.loop-i.invariant.2 c.loop-i-test.true (byte_in _ (omega (arith, c.loop-i-test.true, c.loop-i.invariant.1, c.loop-i.invariant.2.adds.size))),
+)
 
 pub shape_of-out : goal.shape_of-out
 shape_of-out c = c.loop-i.invariant.2.adds.size

@@ -1,11 +1,8 @@
 -- Bytes that do not fit are too much; of those that do each turn stores one.
 use mathlib.Core.Path.{◌≡◌}
 use Prim.Native.Nat.{◌≤◌, ◌-◌, ◌+◌}
-use native.Mathlib.Omega.{arith}
 use lib.ListN.{length}
-use Rattle.writing.proofs.Laws.Showing.{adds_over, byte_in}
-use Rattle.writing.proofs.Laws.Each.{itself, Each, each_start, each_next, each_end, bytes_each}
-use borrow.Author.Rules.{rules}
+use Rattle.writing.proofs.Laws.Each.{itself, Each}
 use Rattle.writing.proofs.sink.put_bytes.Given as goal
 
 abbrev pub invariant-loop-i : goal.invariant-loop-i

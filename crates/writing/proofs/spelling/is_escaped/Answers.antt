@@ -1,5 +1,4 @@
 -- Test by test.
-use borrow.Author.Tests.{not-true, not-false}
 use Rattle.writing.proofs.Laws.Chars.{dollar_escaped, plain_bare, star_escaped, any_escaped}
 use Rattle.writing.proofs.spelling.is_escaped.Goals as goal
 

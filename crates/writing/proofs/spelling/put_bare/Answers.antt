@@ -1,11 +1,9 @@
 -- Each turn adds the characters that are plain and one that is not.
 use mathlib.Core.Path.{ap, ◌∙◌}
-use Prim.Native.Nat.{◌-◌}
 use native.Mathlib.Omega.{arith}
-use lib.ListN.{length}
 use Rattle.chars.specs.Written.{written}
 use Rattle.writing.proofs.Laws.Showing.{adds_as}
-use Rattle.writing.proofs.Laws.Each.{bare_char, Each, each_start, each_next, each_plain, each_end, bare_plain}
+use Rattle.writing.proofs.Laws.Each.{each_start, each_next, each_plain, each_end, bare_plain}
 use Rattle.writing.proofs.Laws.Each.{bare_each}
 use Rattle.writing.proofs.spelling.put_bare.Goals as goal
 

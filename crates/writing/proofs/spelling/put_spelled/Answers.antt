@@ -1,9 +1,7 @@
 -- Each turn adds the symbols that are plain and one that is not.
 use mathlib.Core.Path.{◌∙◌}
-use Prim.Native.Nat.{◌-◌}
 use native.Mathlib.Omega.{arith}
-use lib.ListN.{length}
-use Rattle.writing.proofs.Laws.Each.{symbol, Each, each_start, each_next, each_plain, each_end, spelled_plain}
+use Rattle.writing.proofs.Laws.Each.{each_start, each_next, each_plain, each_end, spelled_plain}
 use Rattle.writing.proofs.Laws.Each.{spelled_each}
 use Rattle.writing.proofs.spelling.put_spelled.Goals as goal
 

@@ -1,6 +1,6 @@
 -- By whether it is escaped.
 use mathlib.Core.Path.{sym, ap, ◌∙◌}
-use borrow.Author.Tests.{not-true, not-false}
+use borrow.Author.Tests.{not-false}
 use Rattle.chars.specs.Written.{written}
 use Rattle.writing.proofs.Laws.Showing.{adds_as, adds_then}
 use Rattle.writing.proofs.Laws.Pieces.{spelling_bare, spelling_escaped}
