@@ -1,6 +1,6 @@
 //! The exported functions as the archive has them, and every `unsafe` of this
 //! crate. A linker does not compare these declarations with their source,
-//! crates/refine/src/exports.rt: tests/all/header.rs does, and include/muckposy.h
+//! crates/refine_c/src/lib.rt: tests/all/header.rs does, and include/muckposy.h
 //! with both.
 //!
 //! A slice is passed as the pointer to its first element and its length. No

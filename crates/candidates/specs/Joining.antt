@@ -3,7 +3,7 @@
 --                     entry
 --   Texted xs         the numbers xs are the row of such a content;  Numeric c, Numbered xs   the same of numbers
 use Rattle.std.specs.Prelude.{◌≡◌, List, [], ℕ, ◌≤◌, length}
-use Rattle.candidates.specs.Candidates.{Candidate, itself, single, under, up_to, Content, empty, holds}
+use Rattle.candidates.specs.Candidates.{itself, single, under, up_to, Content, empty, holds}
 use Rattle.candidates.specs.Kinds.{text_of}
 use Rattle.candidates.specs.Rows.{text_characters, row}
 

@@ -8,7 +8,7 @@
 use Rattle.std.specs.Prelude.{Bool, true, false, List, [], ◌∷◌, ◌++◌, ℕ, ◌+◌, ◌-◌, ◌*◌, ◌/◌, ◌%◌, eqb, length, get_or, take, drop, replicate}
 use Rattle.chars.specs.Base.{pick}
 use Rattle.syntax.specs.Forms.{both, same}
-use Rattle.candidates.specs.Candidates.{Candidate, itself, single, under, up_to, Content, empty, holds, Kind}
+use Rattle.candidates.specs.Candidates.{itself, single, under, up_to, Content, empty, holds, Kind}
 use Rattle.candidates.specs.Candidates.{is_content}
 
 abbrev pub row_numbers : ℕ

@@ -5,8 +5,6 @@
 use Rattle.std.specs.Prelude.{List, ℕ}
 use Rattle.syntax.specs.Policy.{Policy, Request}
 use Rattle.decision.specs.Decision.{decide}
-use Rattle.held.specs.Held.{held}
-use Rattle.held.specs.Lying.{Lies}
 use Rattle.policy.specs.Reading.{Outcome, refused, known, policy_rules, record_rules, Says}
 use Rattle.policy.specs.declared.refusals.Refusal.{Refusal}
 use Rattle.decision.specs.declared.deciding.Decision.{Decision}

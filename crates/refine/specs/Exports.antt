@@ -4,7 +4,7 @@
 --                       or the bytes written
 --   Replies R f t       t are the numbers, by f, of an outcome that R lets pass
 -- Differs from 01: nowhere; the numbers of decisions are the builder's.  Pinned by: Laws/Exports (no two replies).
-use Rattle.std.specs.Prelude.{◌≡◌, ℕ}
+use Rattle.std.specs.Prelude.{ℕ}
 use Rattle.policy.specs.Refusals.{number_of, place_of}
 use Rattle.policy.specs.Reading.{Outcome, refused, known}
 use Rattle.policy.specs.declared.refusals.Refusal.{Refusal}

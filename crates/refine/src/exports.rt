@@ -1,4 +1,4 @@
-// The six operations for a host: slices in, numbers out.
+// The six operations for a host: slices in, numbers out. The crate refine_c exports them.
 ghost use Rattle.std.specs.Prelude.{◌≡◌};
 ghost use Rattle.decide.specs.Operations as deciding;
 ghost use Rattle.restate.specs.Operations as writing;
@@ -103,43 +103,37 @@ fn of_done(a: Answer) -> Reply
     }
 }
 
-#[unsafe(no_mangle)]
-pub extern "C" fn muckposy_decide(policy: &[u8], asked: &[u8]) -> Reply
+pub fn muckposy_decide(policy: &[u8], asked: &[u8]) -> Reply
     ensures { Replies (λ x. deciding.Decides policy.now asked.now x) of_decided result }
 {
     of_decided(decide::operations::decide(policy, asked))
 }
 
-#[unsafe(no_mangle)]
-pub extern "C" fn muckposy_feed(policy: &[u8], asked: &[u8], room: &mut [u32]) -> Reply
+pub fn muckposy_feed(policy: &[u8], asked: &[u8], room: &mut [u32]) -> Reply
     ensures { Replies (λ x. Feeds policy.now asked.now room.old x room.new) of_decided result }
 {
     of_decided(operations::feed(policy, asked, room))
 }
 
-#[unsafe(no_mangle)]
-pub extern "C" fn muckposy_join(policy: &[u8], room: &mut [u32], other: &[u32]) -> Reply
+pub fn muckposy_join(policy: &[u8], room: &mut [u32], other: &[u32]) -> Reply
     ensures { Replies (λ x. Joins policy.now room.old other.now x room.new) of_done result }
 {
     of_done(operations::join(policy, room, other))
 }
 
-#[unsafe(no_mangle)]
-pub extern "C" fn muckposy_finish(policy: &[u8], room: &[u32], out: &mut [u8]) -> Reply
+pub fn muckposy_finish(policy: &[u8], room: &[u32], out: &mut [u8]) -> Reply
     ensures { Replies (λ x. Finishes policy.now room.now out.old x out.new) of_written result }
 {
     of_written(operations::finish(policy, room, out))
 }
 
-#[unsafe(no_mangle)]
-pub extern "C" fn muckposy_restate(policy: &[u8], out: &mut [u8]) -> Reply
+pub fn muckposy_restate(policy: &[u8], out: &mut [u8]) -> Reply
     ensures { Replies (λ x. writing.Restates policy.now out.old x out.new) of_written result }
 {
     of_written(restate::operations::restate(policy, out))
 }
 
-#[unsafe(no_mangle)]
-pub extern "C" fn muckposy_fresh(room: &mut [u32]) -> Reply
+pub fn muckposy_fresh(room: &mut [u32]) -> Reply
     ensures { Replies (λ x. (x, room.new) ≡ freshened room.old) of_done result }
 {
     of_done(operations::fresh(room))

@@ -1,4 +1,4 @@
-// The operations over bytes, numbers and rooms, and the exports for the Rust host.
+// The operations over bytes, numbers and rooms, and as a host is told of them.
 #![tactic(auto)]
 
 pub mod exports;

@@ -6,11 +6,11 @@
 --                          an entry left, a Deny statement whole; nothing is merged or reordered
 --   has_allow p             an Allow statement is written; where none is, 10 is given
 -- Differs from 01: nowhere.
-use Rattle.std.specs.Prelude.{Bool, true, false, List, [], ◌∷◌, ◌++◌, map, ℕ, ◌*◌, length, take, drop}
+use Rattle.std.specs.Prelude.{Bool, true, false, List, [], ◌∷◌, map, ℕ, ◌*◌, length, take, drop}
 use Rattle.chars.specs.Base.{pick}
 use Rattle.syntax.specs.Forms.{both}
 use Rattle.held.specs.Held.{any_of}
-use Rattle.syntax.specs.Policy.{Effect, Allow, Deny, Value, text, number, Row, Statement, Policy}
+use Rattle.syntax.specs.Policy.{Allow, Value, text, number, Row, Statement, Policy}
 use Rattle.decision.specs.Decision.{same_effect}
 use Rattle.candidates.specs.Candidates.{Content, empty, holds}
 use Rattle.candidates.specs.Entries.{refined}

@@ -6,10 +6,10 @@
 --   fed ss vs xs    the rows xs once the values vs are charged;  found_at k vs, row_at k xs   of the k-th slot
 --   met ss xs ys    the rows of two rooms, joined row by row
 -- Differs from 01: nowhere.
-use Rattle.std.specs.Prelude.{Bool, true, false, List, [], ◌∷◌, ◌++◌, map, ℕ, zero, suc, ◌*◌, take, drop}
+use Rattle.std.specs.Prelude.{Bool, List, [], ◌∷◌, ◌++◌, map, ℕ, zero, suc, ◌*◌, take, drop}
 use Rattle.chars.specs.Base.{pick}
 use Rattle.syntax.specs.Forms.{both}
-use Rattle.syntax.specs.Policy.{Effect, Allow, Deny, Value, text, Row, Statement, Policy, Context, Request}
+use Rattle.syntax.specs.Policy.{Effect, Allow, Value, text, Row, Statement, Policy, Context, Request}
 use Rattle.decision.specs.Decision.{Found, nothing, found, value_at, part_of, is_none, same_effect, decide}
 use Rattle.decision.specs.declared.deciding.Decision.{Decision}
 use Rattle.decision.specs.declared.deciding.Decision.TheVariants.{Denied, Allowed, Implicit}

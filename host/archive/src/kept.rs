@@ -112,7 +112,7 @@ mod tests {
         let folder = Folder::repository();
         let kit = kit(&folder, PROVES);
         let first = kept(&folder, &kit).unwrap();
-        assert_eq!(fs::read(&first).unwrap(), b"!<arch>\nmiddle\n");
+        assert_eq!(fs::read(&first).unwrap(), b"!<arch>\nmiddle_c\n");
         assert_eq!(kept(&folder, &kit), Ok(first.clone()));
         assert_eq!(calls(&folder), 1);
         folder.file("crates/low/src/lib.rt", b"lower");
@@ -140,7 +140,7 @@ mod tests {
     #[test]
     fn sources_that_change_meanwhile() {
         let folder = Folder::repository();
-        let edits = format!("{PROVES}\necho more >> crates/low/src/lib.rt");
+        let edits = format!("{PROVES}\necho more >> ../low/src/lib.rt");
         let words = kept(&folder, &kit(&folder, &edits)).unwrap_err();
         assert!(words.contains("changed while they were proved"), "{words}");
         assert_eq!(calls(&folder), 1);
@@ -149,9 +149,9 @@ mod tests {
     #[test]
     fn a_proof_that_fails_leaves_nothing() {
         let folder = Folder::repository();
-        let fails = kit(&folder, "echo rt: low NOT PROVED; exit 1");
+        let fails = kit(&folder, "echo logic=not-proved; exit 1");
         let words = kept(&folder, &fails).unwrap_err();
-        assert!(words.contains("rt: low NOT PROVED"), "{words}");
+        assert!(words.contains("logic=not-proved"), "{words}");
         let names = fs::read_dir(folder.path().join("kept")).unwrap();
         let names: Vec<_> = names.map(|entry| entry.unwrap().file_name()).collect();
         assert_eq!(names, ["middle.log"]);

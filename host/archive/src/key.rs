@@ -65,7 +65,7 @@ mod tests {
             ("crates/low/src/inner/more.rt", b""),
             ("crates/low/specs/Low.antt", b""),
             ("crates/middle/proofs/Middle.antt", b""),
-            ("crates.txt", b"middle: low\n"),
+            ("crates.txt", b"middle staticlib: low\n"),
         ] {
             folder.file(name, bytes);
             keys.push(key_of(&folder, "kit"));

@@ -46,40 +46,45 @@ impl<'a> Proving<'a> {
 
     /// Has `rt` prove and build the archive, and says where it is.
     pub fn run(&self, log: &Path, teller: &Teller) -> Result<PathBuf, String> {
-        let library = self.library;
-        let all = self.repository.crates(library)?.len();
-        let below = all - 1;
+        let exporter = self.repository.exporter(self.library)?;
+        let below = self.repository.crates(self.library)?.len() - 1;
         teller.tell(&format!(
-            "proving crates/{library} and the {below} crates below it; some minutes, once"
+            "proving crates/{exporter} and the {below} crates below it; some minutes, once"
         ));
-        let begun = Instant::now();
-        let mut done = 0;
-        let ended = self.watch(log, |line| {
-            if let Some((name, how)) = proved(line) {
-                done += 1;
-                teller.tell(&format!("{done} of {all}: {name} {how}"));
+        let (begun, mut last) = (Instant::now(), Instant::now());
+        let mut reader = Reader::default();
+        let folder = self.repository.root().join("crates").join(&exporter);
+        let ended = self.watch(&folder, log, |line| {
+            if let Some(name) = reader.proved(line) {
+                let seconds = last.elapsed().as_secs();
+                last = Instant::now();
+                teller.tell(&format!("{name} proved, {seconds} s"));
             }
         });
-        let status = ended.map_err(|error| format!("`rt staticlib {library}`: {error}"))?;
+        let status = ended.map_err(|error| format!("`rt lib` in crates/{exporter}: {error}"))?;
         if !status.success() {
-            return Err(failed(library, status, log));
+            return Err(failed(&exporter, status, log));
         }
         let seconds = begun.elapsed().as_secs();
         teller.tell(&format!(
-            "{library} proved and built, {seconds} s in all; kept for every build"
+            "{exporter} proved and built, {seconds} s in all; kept for every build"
         ));
-        let archive = format!("target/staticlib/lib{library}.a");
-        Ok(self.repository.root().join(archive))
+        Ok(folder.join(format!("out/lib{exporter}.a")))
     }
 
-    /// Runs `rt staticlib`, which builds only what it has proved. Both its outputs
-    /// go to the log line by line, and each line is looked at.
-    fn watch(&self, log: &Path, mut look: impl FnMut(&str)) -> io::Result<ExitStatus> {
+    /// Runs `rt lib`, which builds only what it has proved. Both its outputs go to
+    /// the log line by line, and each line is looked at.
+    fn watch(
+        &self,
+        folder: &Path,
+        log: &Path,
+        mut look: impl FnMut(&str),
+    ) -> io::Result<ExitStatus> {
         let mut log = File::create(log)?;
         let (said, to) = io::pipe()?;
         let mut child = Command::new(&self.kit.command)
-            .args(["staticlib", self.library])
-            .current_dir(self.repository.root())
+            .arg("lib")
+            .current_dir(folder)
             .stdin(Stdio::null())
             .stdout(to.try_clone()?)
             .stderr(to)
@@ -95,27 +100,33 @@ impl<'a> Proving<'a> {
     }
 }
 
-/// A crate that a line of `rt` tells of: `rt: NAME proved (85 s)`, or `(unchanged
-/// since it was last proved)`.
-fn proved(line: &str) -> Option<(&str, String)> {
-    let (name, how) = line.strip_prefix("rt: ")?.split_once(" proved (")?;
-    let how = how.strip_suffix(')')?;
-    let timed = how.ends_with(" s");
-    let how = if timed {
-        format!("proved, {how}")
-    } else {
-        how.to_string()
-    };
-    Some((name, how))
+/// Reads what `rt` says of one crate after another: `crate NAME: ..`, and when it is
+/// done `logic=proved ..`. Of a crate that was built before it says nothing.
+#[derive(Debug, Default)]
+struct Reader {
+    name: String,
 }
 
-fn failed(library: &str, status: ExitStatus, log: &Path) -> String {
+impl Reader {
+    /// The crate that is proved with this line.
+    fn proved(&mut self, line: &str) -> Option<&str> {
+        if let Some((name, _)) = line
+            .strip_prefix("crate ")
+            .and_then(|it| it.split_once(": "))
+        {
+            self.name = name.to_string();
+        }
+        line.starts_with("logic=proved ").then_some(&self.name)
+    }
+}
+
+fn failed(exporter: &str, status: ExitStatus, log: &Path) -> String {
     let text = std::fs::read(log).unwrap_or_default();
     let text = String::from_utf8_lossy(&text);
     let lines: Vec<&str> = text.lines().collect();
     let last = lines[lines.len().saturating_sub(SHOWN)..].join("\n");
     format!(
-        "`rt staticlib {library}` failed ({status}). All that it printed is in {}; the last lines:\n{last}",
+        "`rt lib` in crates/{exporter} failed ({status}). All that it printed is in {}; the last lines:\n{last}",
         log.display()
     )
 }
@@ -128,21 +139,20 @@ mod tests {
 
     #[test]
     fn lines_that_tell_of_a_crate() {
-        let told = |line| proved(line).map(|(name, how)| format!("{name} {how}"));
-        let timed = told("rt: policy proved (85 s)");
-        assert_eq!(timed.as_deref(), Some("policy proved, 85 s"));
-        let before = told("rt: text proved (unchanged since it was last proved)");
-        let expected = "text unchanged since it was last proved";
-        assert_eq!(before.as_deref(), Some(expected));
+        let mut reader = Reader::default();
         for line in [
             "",
+            "rt: chose --jobs 2 for policy",
             "fn policy::reading::read_policy: proved",
-            "rt: policy NOT PROVED (exit 1, 3 s)",
-            "rt: target/staticlib/librefine.a has the functions of refine",
-            "policy proved (85 s)",
+            "library text: modules loaded=36 checked=0",
+            "crate policy: modules loaded=0 checked=81",
+            "only=0 proved=0",
+            "logic=not-proved",
         ] {
-            assert_eq!(told(line), None, "{line}");
+            assert_eq!(reader.proved(line), None, "{line}");
         }
+        let last = "logic=proved functions=59 target=x86_64-unknown-linux-gnu";
+        assert_eq!(reader.proved(last), Some("policy"));
     }
 
     /// What the teller and the log have after a run of this `rt`.
@@ -163,13 +173,12 @@ mod tests {
     #[test]
     fn how_far_it_is() {
         let (ended, told, log) = run(PROVES);
-        assert!(ended.unwrap().ends_with("target/staticlib/libtop.a"));
+        assert!(ended.unwrap().ends_with("crates/top/out/libtop.a"));
         let told: Vec<&str> = told.lines().collect();
         let first = "muckposy: proving crates/top and the 2 crates below it; some minutes, once";
         assert_eq!(told[0], first);
-        assert_eq!(told[1], "muckposy: 1 of 3: low proved, 2 s");
-        let second = "muckposy: 2 of 3: middle unchanged since it was last proved";
-        assert_eq!(told[2], second);
+        assert!(told[1].starts_with("muckposy: low proved, "));
+        assert!(told[2].starts_with("muckposy: top proved, "));
         assert!(told[3].starts_with("muckposy: top proved and built, "));
         assert_eq!(told.len(), 4);
         assert!(log.contains("logic=proved functions=3\n"), "{log}");
@@ -181,7 +190,7 @@ mod tests {
         let (ended, _, log) = run(many);
         let words = ended.unwrap_err();
         assert!(
-            words.contains("`rt staticlib top` failed (signal: 9"),
+            words.contains("`rt lib` in crates/top failed (signal: 9"),
             "{words}"
         );
         assert!(

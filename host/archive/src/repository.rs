@@ -4,7 +4,8 @@ use std::collections::BTreeMap;
 use std::fs;
 use std::path::{Path, PathBuf};
 
-/// The list of crates at the root: a line `NAME: DEP DEP ..` for each.
+/// The list of crates at the root: a line `NAME: DEP DEP ..` for each, and
+/// `NAME staticlib: DEP DEP ..` for one that exports its functions.
 const LIST: &str = "crates.txt";
 
 /// The folders of a crate that its proof and its code come from.
@@ -34,20 +35,30 @@ impl Repository {
         self.root.join(LIST)
     }
 
-    /// The crate and all that it depends on, by name. The kit's libraries have no
-    /// folder here, and are the kit's to tell apart.
+    /// The crate that exports the functions of a library: the library's own, or one
+    /// with `_c` behind its name, where crates above it use the library's.
+    pub fn exporter(&self, library: &str) -> Result<String, String> {
+        let text = self.read()?;
+        let lines = lines(&text);
+        let names = [library.to_string(), format!("{library}_c")];
+        let exports = |name: &String| lines.get(name.as_str()).is_some_and(|line| line.exports);
+        names.into_iter().find(exports).ok_or_else(|| {
+            let list = self.list();
+            format!("{} lists no crate that exports {library}", list.display())
+        })
+    }
+
+    /// The crate that exports a library and all that it depends on, by name. The
+    /// kit's libraries have no folder here, and are the kit's to tell apart.
     pub fn crates(&self, library: &str) -> Result<Vec<String>, String> {
-        let list = self.list();
-        let text = fs::read_to_string(&list)
-            .map_err(|error| format!("{} cannot be read: {error}", list.display()))?;
-        let needs = needs(&text);
-        if !needs.contains_key(library) {
-            return Err(format!("{} does not list {library}", list.display()));
-        }
-        let mut found = vec![library];
+        let exporter = self.exporter(library)?;
+        let text = self.read()?;
+        let lines = lines(&text);
+        let mut found = vec![exporter.as_str()];
         let mut next = 0;
         while let Some(name) = found.get(next) {
-            for need in needs.get(name).into_iter().flatten() {
+            let needs = lines.get(name).map(|line| &line.needs);
+            for need in needs.into_iter().flatten() {
                 if !found.contains(need) {
                     found.push(need);
                 }
@@ -70,15 +81,32 @@ impl Repository {
         let there = folders.filter(|folder| folder.is_dir());
         Ok([self.list()].into_iter().chain(there).collect())
     }
+
+    fn read(&self) -> Result<String, String> {
+        let list = self.list();
+        let cannot = |error| format!("{} cannot be read: {error}", list.display());
+        fs::read_to_string(&list).map_err(cannot)
+    }
 }
 
-/// What each line names, without its remark.
-fn needs(text: &str) -> BTreeMap<&str, Vec<&str>> {
+/// What a crate's line says.
+struct Line<'a> {
+    exports: bool,
+    needs: Vec<&'a str>,
+}
+
+/// The lines by the names of their crates, without remarks.
+fn lines(text: &str) -> BTreeMap<&str, Line<'_>> {
     let plain = text.lines().filter_map(|line| line.split('#').next());
-    let named = plain.filter_map(|line| line.split_once(':'));
-    named
-        .map(|(name, needs)| (name.trim(), needs.split_whitespace().collect()))
-        .collect()
+    let halves = plain.filter_map(|line| line.split_once(':'));
+    let named = halves.filter_map(|(own, needs)| {
+        let mut own = own.split_whitespace();
+        let name = own.next()?;
+        let exports = own.any(|word| word == "staticlib");
+        let needs = needs.split_whitespace().collect();
+        Some((name, Line { exports, needs }))
+    });
+    named.collect()
 }
 
 #[cfg(test)]
@@ -103,9 +131,24 @@ mod tests {
         let repository = Repository::above(folder.path()).unwrap();
         let crates = |library: &str| repository.crates(library);
         assert_eq!(crates("top").unwrap(), ["low", "middle", "top"]);
-        assert_eq!(crates("middle").unwrap(), ["low", "middle"]);
-        assert_eq!(crates("low").unwrap(), ["low"]);
-        assert!(crates("none").unwrap_err().contains("does not list none"));
+        assert_eq!(crates("middle").unwrap(), ["low", "middle", "middle_c"]);
+        for name in ["low", "none"] {
+            let words = crates(name).unwrap_err();
+            let expected = format!("lists no crate that exports {name}");
+            assert!(words.ends_with(&expected), "{words}");
+        }
+    }
+
+    /// A library that crates above it use has its exports in a crate of their own.
+    #[test]
+    fn which_crate_exports_a_library() {
+        let folder = Folder::repository();
+        let repository = Repository::above(folder.path()).unwrap();
+        let exporters = ["top", "middle", "middle_c"].map(|name| repository.exporter(name));
+        assert_eq!(
+            exporters.map(Result::unwrap),
+            ["top", "middle_c", "middle_c"]
+        );
     }
 
     #[test]
@@ -113,7 +156,12 @@ mod tests {
         let folder = Folder::repository();
         let repository = Repository::above(folder.path()).unwrap();
         let sources = repository.sources("middle").unwrap();
-        let names = ["crates.txt", "crates/low/src", "crates/middle/src"];
+        let names = [
+            "crates.txt",
+            "crates/low/src",
+            "crates/middle/src",
+            "crates/middle_c/src",
+        ];
         assert_eq!(sources, names.map(|name| folder.path().join(name)));
     }
 }

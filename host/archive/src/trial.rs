@@ -5,16 +5,20 @@ use std::path::{Path, PathBuf};
 use std::process::{self, Command};
 use std::sync::atomic::{AtomicUsize, Ordering};
 
-/// An `rt` that counts its calls and writes an archive, as if `low` had been proved
-/// now and `middle` before.
+/// An `rt` that counts its calls and writes the archive of the crate in whose folder
+/// it is called, as if that crate and `low` had been proved now and others before.
 pub const PROVES: &str = r#"
-[ "$1" = staticlib ] || exit 2
-echo call >> calls
-echo 'rt: low proved (2 s)' >&2
-echo 'rt: middle proved (unchanged since it was last proved)' >&2
-echo 'logic=proved functions=3'
-mkdir -p target/staticlib
-{ echo '!<arch>'; echo "$2"; } > "target/staticlib/lib$2.a"
+[ "$1" = lib ] || exit 2
+echo call >> ../../calls
+name=${PWD##*/}
+for each in low "$name"; do
+    echo "rt: chose --jobs 2 for $each" >&2
+    echo "library std: modules loaded=2 checked=0"
+    echo "crate $each: modules loaded=0 checked=5"
+    echo 'logic=proved functions=3'
+done
+mkdir -p out
+{ echo '!<arch>'; echo "$name"; } > "out/lib$name.a"
 "#;
 
 /// How often [`PROVES`] was called at a folder's root.
@@ -39,12 +43,14 @@ impl Folder {
         Folder { path }
     }
 
-    /// Three crates, one above the other.
+    /// Three crates, one above the other, of which the highest exports its functions;
+    /// those of the one in the middle are exported by a crate of their own.
     pub fn repository() -> Folder {
         let folder = Folder::new();
-        let list = "# NAME: DEP ..\nlow:\nmiddle: low # and no more\ntop: middle io\n";
+        let list = "# NAME: DEP ..\nlow:\nmiddle: low # and no more\n\
+                    middle_c staticlib: middle\ntop staticlib: middle io\n";
         folder.file("crates.txt", list.as_bytes());
-        for name in ["low", "middle", "top"] {
+        for name in ["low", "middle", "middle_c", "top"] {
             folder.file(&format!("crates/{name}/src/lib.rt"), name.as_bytes());
         }
         folder

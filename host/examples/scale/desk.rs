@@ -44,7 +44,7 @@ fn walk_input(
     save::clear(room)?;
     let walked = walk(&text, input).map_err(|trouble| trouble.with(Path::new("standard input")))?;
     write!(errors, "{walked}")?;
-    save::save(&walked.room, &text, room)
+    save::save_stamped(&walked.room, &text, room)
 }
 
 fn join(

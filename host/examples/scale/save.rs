@@ -19,10 +19,15 @@ pub fn clear(path: &Path) -> Result<(), Trouble> {
 
 /// Saves a room and, before it, its stamp: where there is a room, it was fed
 /// under the policy beside it.
-pub fn save(room: &Room, policy: &[u8], path: &Path) -> Result<(), Trouble> {
+pub fn save_stamped(room: &Room, policy: &[u8], path: &Path) -> Result<(), Trouble> {
     let stamp = stamp::path(path);
     put(&stamp, policy).map_err(|error| Trouble::from(error).with(&stamp))?;
-    put(path, &room.to_bytes()).map_err(|error| Trouble::from(error).with(path))
+    save(room, path).map_err(|error| Trouble::from(error).with(path))
+}
+
+/// Saves a room.
+pub fn save(room: &Room, path: &Path) -> io::Result<()> {
+    put(path, &room.to_bytes())
 }
 
 /// Whoever looks for the file finds it whole or not at all: it is written under

@@ -53,7 +53,7 @@ type Log = (Vec<u8>, Vec<Vec<u8>>);
 
 fn gate() -> io::Result<Vec<Log>> {
     let folder = Path::new(env!("CARGO_MANIFEST_DIR")).join("../../examples/gate");
-    let log = fs::read(folder.join("gate.log"))?;
+    let log = fs::read(folder.join("night.log"))?;
     let lines = log.split(|&byte| byte == b'\n');
     let records = lines.filter(|line| !line.is_empty()).map(<[u8]>::to_vec);
     Ok(vec![(

@@ -186,26 +186,25 @@ fn path_with_rt(folder: &Folder, text: &str, path: &OsString) -> OsString {
 fn one_archive_for_all_builds() {
     let mut trial = Downstream::new("once");
     let folder = &trial.folder;
-    folder.file("crates.txt", "low:\nmiddle: low\nrefine: low middle\n");
-    for name in ["low", "middle", "refine"] {
+    let list = "low:\nrefine: low\nrefine_c staticlib: low refine\n";
+    folder.file("crates.txt", list);
+    for name in ["low", "refine", "refine_c"] {
         folder.file(&format!("crates/{name}/src/lib.rt"), name);
     }
     let counting = format!(
         "[ \"$1\" = version ] && {{ echo counting; exit; }}\n\
-         echo \"$*\" >> calls\necho 'rt: low proved (2 s)' >&2\n\
-         mkdir -p target/staticlib && cp '{}' target/staticlib/librefine.a\n",
+         echo \"${{PWD##*/}}: $*\" >> ../../calls\n\
+         echo 'crate low: modules loaded=0 checked=5'\necho 'logic=proved functions=1'\n\
+         mkdir -p out && cp '{}' out/librefine_c.a\n",
         env!("MUCKPOSY_LINKED_ARCHIVE")
     );
     trial.path = path_with_rt(folder, &counting, &trial.path);
     let calls = || fs::read_to_string(trial.folder.path().join("calls")).unwrap();
 
     let said = does(&mut trial.here("service", &["build"]));
-    let begun = "muckposy: proving crates/refine and the 2 crates below it; some minutes, once\n";
+    let begun = "muckposy: proving crates/refine_c and the 2 crates below it; some minutes, once\n";
     assert!(said.contains(begun), "{said}");
-    assert!(
-        said.contains("muckposy: 1 of 3: low proved, 2 s\n"),
-        "{said}"
-    );
+    assert!(said.contains("muckposy: low proved, "), "{said}");
     assert_eq!(runs(&trial.program()), PRINTED);
     for arguments in [
         &["build"][..],
@@ -217,7 +216,7 @@ fn one_archive_for_all_builds() {
         let said = does(&mut trial.here("service", arguments));
         assert!(!said.contains("proving"), "{arguments:?}: {said}");
     }
-    assert_eq!(calls(), "staticlib refine\n");
+    assert_eq!(calls(), "refine_c: lib\n");
 
     trial.folder.file("crates/low/src/lib.rt", "lower");
     let said = does(&mut trial.here("service", &["build"]));
@@ -225,16 +224,18 @@ fn one_archive_for_all_builds() {
     assert_eq!(calls().lines().count(), 2);
 }
 
-/// Stands for `rt` where `./dist` calls it.
+/// Stands for `rt` where `./dist` calls it: below the root, or in a crate's folder.
 const HANDING: &str = r#"
+name=${PWD##*/}
+mkdir -p out
 case $1 in
-version) echo some kit 7 ;;
+version) rmdir out; echo some kit 7 ;;
 check)
-    mkdir -p target/bin target/log && echo program > target/bin/muckposy
-    for name in low refine muckposy; do echo "logic=proved functions=1" > target/log/$name.say; done
-    if [ -e broken ]; then echo logic=refused > target/log/low.say; fi
-    echo rt: ok ;;
-staticlib) mkdir -p target/staticlib && echo archive > target/staticlib/librefine.a && echo rt: built ;;
+    echo 'logic=proved functions=2'
+    if [ "$name" = low ] && [ -e ../../broken ]; then echo logic=refused; exit; fi
+    echo "logic=proved functions=1" ;;
+run) echo program > out/muckposy ;;
+lib) echo archive > "out/lib$name.a" ;;
 esac
 "#;
 
@@ -245,14 +246,15 @@ const MADE: &str =
     "CHECK.txt LICENSE README.txt VERSION bin/muckposy docs/REFUSALS.md docs/RULES.md \
                     docs/USING.md include/muckposy.h lib/libmuckposy.a refine";
 
-/// Three crates with what else `./dist` takes, and the command.
+/// Four crates with what else `./dist` takes, and the command.
 fn handing(folder: &Folder) -> Command {
     for name in GIVEN.split_whitespace() {
         folder.file(name, "");
         fs::copy(package("..").join(name), folder.path().join(name)).expect("a copy");
     }
-    folder.file("crates.txt", "low:\nrefine: low\nmuckposy: low refine io\n");
-    for name in ["low", "refine", "muckposy"] {
+    let list = "low:\nrefine: low\nrefine_c staticlib: low refine\nmuckposy: low refine io\n";
+    folder.file("crates.txt", list);
+    for name in ["low", "refine", "refine_c", "muckposy"] {
         folder.file(&format!("crates/{name}/src/lib.rt"), "");
     }
     let path = env::var_os("PATH").unwrap_or_default();
@@ -279,11 +281,13 @@ fn what_dist_makes() {
     assert!(names.eq(MADE.split_whitespace()), "{sums}");
     assert_eq!(read("VERSION").trim(), env!("CARGO_PKG_VERSION"));
     let line = "logic=proved functions=1";
-    let check = format!("some kit 7\nlow: {line}\nrefine: {line}\nmuckposy: {line}\n");
+    let names = ["low", "refine", "muckposy", "refine_c"];
+    let check: String = names.map(|name| format!("{name}: {line}\n")).concat();
+    let check = format!("some kit 7\n{check}");
     assert_eq!(read("CHECK.txt"), check);
 
     fs::remove_dir_all(&made).unwrap();
     folder.file("broken", "");
-    fails(&mut dist, "target/log/low.say has no line of its proof");
+    fails(&mut dist, "target/log/low.check has no line of its proof");
     assert!(!made.exists());
 }

@@ -134,7 +134,7 @@ fn the_header_declares_what_is_linked() {
 #[test]
 fn what_is_linked_is_exported() {
     let linked = read("src/linked.rs");
-    let exports = read("../crates/refine/src/exports.rt");
+    let exports = read("../crates/refine_c/src/lib.rt");
     let types = |slice: &str| match slice {
         "&[u8]" => vec!["*const u8", "usize"],
         "&mut [u8]" => vec!["*mut u8", "usize"],

@@ -21,12 +21,12 @@ pub fn root() -> PathBuf {
     Path::new(env!("CARGO_MANIFEST_DIR")).join("..")
 }
 
-/// `rt ci` and `rt check` leave the program here.
+/// `rt ci`, and `rt run` in crates/muckposy, leave the program here.
 pub fn program() -> PathBuf {
-    let path = root().join("target/bin/muckposy");
+    let path = root().join("crates/muckposy/out/muckposy");
     assert!(
         path.is_file(),
-        "{} is missing: `rt check muckposy` makes it",
+        "{} is missing: `rt run` in crates/muckposy makes it",
         path.display()
     );
     path.canonicalize().expect("the program has a path")
@@ -211,6 +211,17 @@ fn nothing_used() {
 #[test]
 fn the_example_of_the_gate() {
     let folder = root().join("examples/gate");
+    let read = |name: &str| fs::read(folder.join(name)).expect("the example is whole");
+    let run = run(Some(&read("policy.json")), &read("night.log"));
+    assert_eq!(
+        String::from_utf8_lossy(&run.output),
+        String::from_utf8_lossy(&read("expected.txt"))
+    );
+}
+
+#[test]
+fn the_example_of_days() {
+    let folder = root().join("examples/days");
     let read = |name: &str| fs::read(folder.join(name)).expect("the example is whole");
     let run = run(Some(&read("policy.json")), &read("gate.log"));
     assert_eq!(

@@ -2,6 +2,7 @@
 //! any order and with repeats they come to what one walk comes to.
 
 use crate::cut::cut;
+use crate::save::{load, save};
 use crate::walk::{walk, Walked};
 use muckposy::{decide, Outcome, Room};
 use second::generate::damage::damage_record;
@@ -77,8 +78,21 @@ fn every_way(policy: &[u8], log: &[u8], seed: u64) -> Walked {
 }
 
 #[test]
-fn the_days_of_the_gate() {
+fn the_night_of_the_gate() {
     let folder = Path::new(env!("CARGO_MANIFEST_DIR")).join("../examples/gate");
+    let read = |name: &str| fs::read(folder.join(name)).expect("the example is whole");
+    let policy = read("policy.json");
+    let walked = every_way(&policy, &read("night.log"), 1);
+    assert_eq!(walked.refused, BTreeMap::from([(8, 2)]));
+    let expected = read("expected.txt");
+    let last = expected.trim_ascii_end().rsplit(|&byte| byte == b'\n');
+    let refined = walked.room.finish(&policy).expect("a refined policy");
+    assert_eq!(Some(&refined[..]), last.into_iter().next());
+}
+
+#[test]
+fn the_days_of_the_gate() {
+    let folder = Path::new(env!("CARGO_MANIFEST_DIR")).join("../examples/days");
     let read = |name: &str| fs::read(folder.join(name)).expect("the example is whole");
     let policy = read("policy.json");
     let walked = every_way(&policy, &read("gate.log"), 1);
@@ -92,7 +106,7 @@ fn the_days_of_the_gate() {
 /// What is written lets the gate in on other days too: no date is left in it.
 #[test]
 fn later_days_of_the_gate() {
-    let folder = Path::new(env!("CARGO_MANIFEST_DIR")).join("../examples/gate");
+    let folder = Path::new(env!("CARGO_MANIFEST_DIR")).join("../examples/days");
     let read = |name: &str| fs::read_to_string(folder.join(name)).expect("the example is whole");
     let (policy, printed) = (read("policy.json"), read("expected.txt"));
     let refined = printed.lines().last().expect("a refined policy");
@@ -187,4 +201,25 @@ fn lines_of_any_kind() {
     assert!(walked.room.finish(policy.as_bytes()).is_ok());
     let trouble = walk(b"{", log.as_bytes()).expect_err("no policy at all");
     assert!(trouble.to_string().starts_with("refused by 3"));
+}
+
+#[test]
+fn rooms_in_files() {
+    let policy = trials::texts::policy(trials::texts::ALLOW);
+    let record = trials::texts::record("");
+    let room = walk(policy.as_bytes(), record.as_bytes()).expect("a policy that is read");
+    let folder = std::env::temp_dir().join(format!("muckposy-rooms-{}", std::process::id()));
+    fs::create_dir(&folder).expect("a folder for the rooms");
+    let path = folder.join("1.room");
+    for room in [Room::new(), room.room] {
+        save(&room, &path).expect("the room is saved");
+        assert!(load(&path).expect("the room is there") == room);
+    }
+    let files = fs::read_dir(&folder).expect("the folder is there").count();
+    assert_eq!(files, 1, "nothing else is left");
+    fs::write(&path, [0; 100]).expect("the file is cut");
+    assert!(load(&path).is_err());
+    assert!(load(&folder.join("2.room")).is_err());
+    assert!(save(&Room::new(), &folder.join("none/3.room")).is_err());
+    fs::remove_dir_all(&folder).expect("the folder is removed");
 }

@@ -2,7 +2,7 @@
 use mathlib.Core.Path.{◌≡◌, refl, sym, ap, ◌∙◌, subst}
 use mathlib.Core.Bool.{Bool, true, false}
 use mathlib.Core.List.{List, [], ◌∷◌}
-use Prim.Native.Nat.{ℕ, ◌+◌, ◌*◌, ◌/◌, ◌%◌, ◌≤◌, ◌<◌}
+use Prim.Native.Nat.{ℕ, ◌/◌, ◌%◌, ◌≤◌, ◌<◌}
 use native.Mathlib.Nat.{div-add-mod'}
 use native.Mathlib.Omega.{arith}
 use lib.Dec.{leb}
@@ -10,7 +10,7 @@ use lib.ListN.{length, get_or}
 use borrow.Author.Tests.{le-leb, lt-leb}
 use Rattle.chars.specs.Base.{pick}
 use Rattle.syntax.specs.Policy.{number}
-use Rattle.candidates.specs.Candidates.{Candidate, up_to, Content, empty, holds, joined, charged}
+use Rattle.candidates.specs.Candidates.{up_to, Content, empty, holds, joined, charged}
 use Rattle.candidates.specs.Kinds.{bounds}
 use Rattle.candidates.specs.Rows.{row_numbers, padded, number_row, row, number_in}
 use Rattle.candidates.specs.Joining.{Numeric, no_number, one_number, Numbered}

@@ -6,7 +6,7 @@ use Prim.Native.Nat.{ℕ, zero, suc, ◌-◌, ◌≤◌, ◌<◌}
 use native.Mathlib.Omega.{arith}
 use lib.ListN.{length, take, length-take}
 use Rattle.chars.specs.Base.{pick}
-use Rattle.candidates.specs.Candidates.{Candidate, itself, under, Content, holds}
+use Rattle.candidates.specs.Candidates.{Candidate, under, holds}
 use Rattle.candidates.specs.Beginnings.{longest_up_to, longest}
 use Rattle.candidates.specs.Entries.{Place, legal_beginning}
 use Rattle.candidates.specs.Places.{place_number}

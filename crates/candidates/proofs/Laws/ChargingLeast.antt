@@ -7,7 +7,7 @@ use native.Mathlib.Omega.{arith}
 use lib.ListN.{length, take}
 use Rattle.chars.specs.Base.{pick}
 use Rattle.syntax.specs.Policy.{text}
-use Rattle.candidates.specs.Candidates.{Candidate, itself, single, Content, holds}
+use Rattle.candidates.specs.Candidates.{Candidate, itself, single, holds}
 use Rattle.candidates.specs.Beginnings.{longest_up_to, longest}
 use Rattle.candidates.specs.Kinds.{never}
 use Rattle.candidates.specs.Entries.{Place, before, legal_text, legal_beginning, wild_kind}

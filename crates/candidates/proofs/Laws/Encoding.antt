@@ -2,20 +2,19 @@
 --   content_row      the content of a row is what it was made of
 --   row_injective    so no two contents have one row
 --   is_row_made      `is_row` says exactly that the numbers are the row of an entry's content
-use mathlib.Core.Path.{◌≡◌, refl, sym, ap, ◌∙◌, subst}
-use mathlib.Core.Bool.{Bool, true, false}
-use mathlib.Core.List.{List, [], ◌∷◌, ◌++◌}
-use Prim.Native.Nat.{ℕ, ◌+◌, ◌-◌, ◌*◌, ◌/◌, ◌%◌, ◌≤◌}
+use mathlib.Core.Path.{◌≡◌, refl, sym, ap, ◌∙◌}
+use mathlib.Core.Bool.{Bool, true}
+use mathlib.Core.List.{List}
+use Prim.Native.Nat.{ℕ, ◌≤◌}
 use native.Mathlib.Nat.{div-add-mod'}
-use native.Mathlib.Omega.{arith}
-use lib.ListN.{length, get_or, take, drop, replicate}
+use lib.ListN.{length}
 use lib.Seq.{take-append_seam}
 use Rattle.syntax.specs.Forms.{both, same}
 use Rattle.syntax.proofs.Laws.Same.{same_sound, same_complete}
 use Rattle.parts.proofs.Laws.Slots.{both_true}
-use Rattle.candidates.specs.Candidates.{Candidate, itself, single, under, up_to, Content, empty, holds, Kind}
+use Rattle.candidates.specs.Candidates.{itself, single, under, up_to, Content, empty, holds, Kind}
 use Rattle.candidates.specs.Candidates.{is_content}
-use Rattle.candidates.specs.Rows.{row_numbers, text_characters, padded, row, content_of, is_row}
+use Rattle.candidates.specs.Rows.{text_characters, padded, row, content_of, is_row}
 
 -- texts of at most 254 characters; numbers have two halves in any case
 pub data Sized : Content → Type 0 where

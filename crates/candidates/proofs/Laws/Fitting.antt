@@ -4,15 +4,14 @@ use mathlib.Core.Bool.{Bool, true, false}
 use mathlib.Core.List.{List, [], ◌∷◌, ◌++◌}
 use Prim.Native.Nat.{ℕ, zero, suc, ◌+◌, ◌-◌, ◌≤◌, ◌<◌}
 use native.Mathlib.Omega.{arith}
-use native.Mathlib.Decide.{ℕ_discrete}
 use lib.Dec.{eqb}
-use lib.ListN.{length, get_or, take, drop, replicate, length-drop, length-take}
+use lib.ListN.{length, get_or, take, drop, length-drop, length-take}
 use lib.Seq.{length-take-le}
 use borrow.Author.Tests.{eq-eqb, ne_eqb}
 use Rattle.chars.specs.Base.{pick}
 use Rattle.syntax.specs.Forms.{both, same}
 use Rattle.syntax.proofs.Laws.Forms.{drop_next}
-use Rattle.candidates.specs.Candidates.{Candidate, itself, single, under, up_to, Content, empty, holds, Kind}
+use Rattle.candidates.specs.Candidates.{Candidate, itself, single, under, Content, empty, holds, Kind}
 use Rattle.candidates.specs.Candidates.{is_content}
 use Rattle.candidates.specs.Beginnings.{begins}
 use Rattle.candidates.specs.Rows.{row_numbers, padded, is_zero, row, content_of, is_row, text_in}

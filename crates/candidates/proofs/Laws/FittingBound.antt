@@ -2,18 +2,18 @@
 use mathlib.Core.Path.{◌≡◌, refl, sym, ap, ◌∙◌}
 use mathlib.Core.Bool.{Bool, true, false}
 use mathlib.Core.List.{List, [], ◌∷◌}
-use Prim.Native.Nat.{ℕ, ◌+◌, ◌*◌, ◌/◌, ◌%◌, ◌≤◌, ◌<◌}
+use Prim.Native.Nat.{ℕ, ◌/◌, ◌%◌, ◌<◌}
 use native.Mathlib.Omega.{arith}
 use native.Mathlib.Decide.{ℕ_discrete}
-use lib.Dec.{eqb, leb}
+use lib.Dec.{leb}
 use lib.ListN.{length, get_or, drop}
 use borrow.Author.Tests.{eq-eqb, ne_eqb}
 use Rattle.syntax.specs.Forms.{both, same}
 use Rattle.syntax.proofs.Laws.Forms.{drop_next}
-use Rattle.candidates.specs.Candidates.{Candidate, itself, single, under, up_to, Content, holds, Kind, is_content}
+use Rattle.candidates.specs.Candidates.{Candidate, itself, single, under, up_to, holds, Kind}
 use Rattle.candidates.specs.Beginnings.{begins}
 use Rattle.candidates.specs.Kinds.{bounds}
-use Rattle.candidates.specs.Rows.{row_numbers, padded, row, is_zero, content_of, is_row, number_in, text_in}
+use Rattle.candidates.specs.Rows.{row_numbers, row, is_zero, content_of, is_row, number_in, text_in}
 use Rattle.candidates.proofs.Laws.Forming.{both_no, both_yes}
 use Rattle.candidates.proofs.Laws.Fitting.{known, begins_mark, padded_same, itself_is, single_is, under_is}
 

@@ -1,5 +1,5 @@
 -- A row that holds a text, test by test: its length, the zeros behind it, the entry's kind, what is legal.
-use mathlib.Core.Path.{◌≡◌, refl, sym, ap, ◌∙◌}
+use mathlib.Core.Path.{◌≡◌, sym, ap, ◌∙◌}
 use mathlib.Core.Bool.{Bool, true, false}
 use mathlib.Core.List.{List}
 use Prim.Native.Nat.{ℕ, ◌+◌, ◌-◌, ◌≤◌, ◌<◌}
@@ -8,7 +8,7 @@ use lib.ListN.{length, get_or, take, drop}
 use Rattle.syntax.specs.Policy.{StringLike}
 use Rattle.syntax.specs.Forms.{both}
 use Rattle.decision.specs.Matching.{matches}
-use Rattle.candidates.specs.Candidates.{Candidate, single, under}
+use Rattle.candidates.specs.Candidates.{single, under}
 use Rattle.candidates.specs.Entries.{Place, comparison, before, legal_text, legal_beginning, wild_kind}
 use Rattle.candidates.specs.Places.{wild_number}
 use Rattle.candidates.specs.Rows.{row_numbers, is_zero, is_row, text_in}

@@ -1,8 +1,8 @@
 -- What an entry that is matched by wildcards can have in its row, by its kind's number.
 use mathlib.Core.Path.{◌≡◌, refl, sym, ap, ◌∙◌}
 use mathlib.Core.Bool.{Bool, true, false}
-use mathlib.Core.List.{List, []}
-use Prim.Native.Nat.{ℕ, suc, ◌+◌, ◌-◌, ◌≤◌, ◌<◌}
+use mathlib.Core.List.{List}
+use Prim.Native.Nat.{ℕ, ◌-◌}
 use native.Mathlib.Omega.{arith}
 use native.Mathlib.Decide.{ℕ_discrete}
 use lib.Dec.{eqb}
@@ -14,7 +14,7 @@ use Rattle.syntax.specs.Policy.{star, Operator, StringLike, Value, text}
 use Rattle.syntax.specs.Forms.{both, same}
 use Rattle.decision.specs.Matching.{matches}
 use Rattle.decision.specs.Decision.{meets}
-use Rattle.candidates.specs.Candidates.{Candidate, itself, single, under, up_to, Content, holds, Kind, is_content}
+use Rattle.candidates.specs.Candidates.{Candidate, itself, single, under, up_to, holds, Kind}
 use Rattle.candidates.specs.Kinds.{texts, only, never}
 use Rattle.candidates.specs.Entries.{Place, comparison, meets_at, wildcards, last_of, before, legal_text, legal_beginning}
 use Rattle.candidates.specs.Entries.{wild_kind}

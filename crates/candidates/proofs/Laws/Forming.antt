@@ -7,15 +7,15 @@ use native.Mathlib.Numerals.{add-one}
 use native.Mathlib.Omega.{arith}
 use lib.Dec.{leb, ltb}
 use lib.ListN.{length, get_or, set, take, length-append, length-set}
-use lib.Seq.{take-suc, take-suc-set, take-set-le, take-length}
-use borrow.Author.Tests.{eq-eqb, ne_eqb, le-leb, lt-leb, lt-ltb, le-ltb}
+use lib.Seq.{take-suc, take-suc-set, take-length}
+use borrow.Author.Tests.{le-leb, lt-leb, lt-ltb, le-ltb}
 use Rattle.syntax.specs.Limits.{entry_characters}
-use Rattle.syntax.specs.Policy.{star, any, StringEquals, StringLike, NumericLessThanEquals}
+use Rattle.syntax.specs.Policy.{star, StringEquals, StringLike, NumericLessThanEquals}
 use Rattle.syntax.specs.Forms.{both, all, is_action, is_resource}
 use Rattle.parts.proofs.Laws.Slots.{both_true}
 use Rattle.writing.specs.WrittenForm.{bare}
 use Rattle.candidates.specs.Beginnings.{begins}
-use Rattle.candidates.specs.Entries.{Place, in_action, in_resource, in_row, is_scalar, is_plain, has_form, is_legal}
+use Rattle.candidates.specs.Entries.{Place, in_action, in_resource, in_row, is_plain, has_form, is_legal}
 use Rattle.candidates.specs.Entries.{legal_text}
 use Rattle.candidates.specs.Entries.{legal_beginning}
 use Rattle.candidates.specs.Places.{place_number, form_of, star_of, Starts}

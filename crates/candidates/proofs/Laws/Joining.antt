@@ -1,8 +1,8 @@
 -- Rows that hold no number: what stands in them, by their contents.
 use mathlib.Core.Path.{◌≡◌, refl, sym, ap, ◌∙◌, subst}
 use mathlib.Core.Bool.{Bool, true, false}
-use mathlib.Core.List.{List, [], ◌∷◌, ◌++◌}
-use Prim.Native.Nat.{ℕ, zero, suc, ◌+◌, ◌-◌, ◌≤◌, ◌<◌}
+use mathlib.Core.List.{List, [], ◌∷◌}
+use Prim.Native.Nat.{ℕ, ◌+◌, ◌-◌, ◌≤◌}
 use native.Mathlib.Omega.{arith}
 use lib.Dec.{eqb}
 use lib.ListN.{length, get_or, take, drop, length-take, length-drop}
@@ -11,7 +11,6 @@ use borrow.Author.Tests.{eq-eqb, ne_eqb}
 use Rattle.chars.specs.Base.{pick}
 use Rattle.chars.specs.Putting.{lay}
 use Rattle.syntax.specs.Forms.{both, same}
-use Rattle.syntax.proofs.Laws.Same.{same_complete}
 use Rattle.candidates.specs.Candidates.{Candidate, itself, single, under, up_to, Content, empty, holds, Kind, joined}
 use Rattle.candidates.specs.Beginnings.{shared}
 use Rattle.candidates.specs.Rows.{row_numbers, text_characters, padded, row, text_in}

@@ -1,5 +1,5 @@
 -- What one text generalises to has a text of a row's size, or none.
-use mathlib.Core.Path.{◌≡◌, refl, sym, ap, ◌∙◌, subst}
+use mathlib.Core.Path.{◌≡◌, sym, subst}
 use mathlib.Core.Bool.{Bool, true, false}
 use mathlib.Core.List.{List}
 use Prim.Native.Nat.{ℕ, zero, suc, ◌≤◌}
@@ -7,7 +7,7 @@ use native.Mathlib.Omega.{arith}
 use lib.ListN.{length, take, length-take}
 use Rattle.chars.specs.Base.{pick}
 use Rattle.syntax.specs.Policy.{text}
-use Rattle.candidates.specs.Candidates.{Candidate, itself, single, under, Content, holds}
+use Rattle.candidates.specs.Candidates.{Candidate, single, under, holds}
 use Rattle.candidates.specs.Beginnings.{longest_up_to, longest}
 use Rattle.candidates.specs.Kinds.{never}
 use Rattle.candidates.specs.Entries.{Place, before, legal_text, legal_beginning, wild_kind}

@@ -6,9 +6,8 @@ use Prim.Native.Nat.{ℕ, ◌≤◌, ◌<◌}
 use native.Mathlib.Omega.{arith}
 use lib.Dec.{leb}
 use borrow.Author.Tests.{eq-eqb, ne_eqb, le-leb, lt-leb}
-use Rattle.chars.specs.Base.{pick, within, one_of}
+use Rattle.chars.specs.Base.{pick, one_of}
 use Rattle.syntax.specs.Policy.{StringEquals, StringLike, NumericLessThanEquals}
-use Rattle.held.specs.Held.{operator_number}
 use Rattle.candidates.specs.Entries.{Place, in_action, in_resource, in_row, is_scalar, is_plain}
 use Rattle.candidates.specs.Places.{place_number}
 

@@ -7,7 +7,6 @@ use mathlib.Core.List.{List}
 use Prim.Native.Nat.{ℕ}
 use lib.ListN.{length}
 use Rattle.syntax.specs.Policy.{Value, text, number}
-use Rattle.syntax.specs.Forms.{same}
 use Rattle.parts.proofs.Laws.Slots.{true_false, both_true}
 use Rattle.syntax.proofs.Laws.Same.{same_sound, same_complete}
 use Rattle.candidates.specs.Candidates.{Candidate, itself, single, under, up_to, Kind, Covers, Under, Least, Lawful}

@@ -1,9 +1,9 @@
 -- Decide comes to one answer; what the two readers tell of it.
-use mathlib.Core.Path.{◌≡◌, refl, sym, ap, ◌∙◌, subst}
+use mathlib.Core.Path.{◌≡◌, sym, ap, ◌∙◌, subst}
 use mathlib.Core.List.{List, ◌++◌}
 use Prim.Native.Nat.{ℕ, ◌≤◌}
 use native.Mathlib.Omega.{arith}
-use lib.ListN.{length, take, drop, take-append-drop}
+use lib.ListN.{length, drop, take-append-drop}
 use Rattle.syntax.specs.Policy.{Policy, Request}
 use Rattle.decision.specs.Decision.{decide}
 use Rattle.syntax.specs.Limits.{run_numbers}

@@ -1,17 +1,17 @@
 -- The decision as tests: some Allow statement matches and no Deny does; a statement matches if all its parts do.
-use mathlib.Core.Path.{◌≡◌, refl, sym, ap, ◌∙◌}
+use mathlib.Core.Path.{◌≡◌, refl, ap, ◌∙◌}
 use mathlib.Core.Bool.{Bool, true, false}
 use mathlib.Core.List.{List, [], ◌∷◌}
 use Prim.Native.Nat.{ℕ, zero, suc}
 use Rattle.chars.specs.Base.{pick}
-use Rattle.syntax.specs.Policy.{Effect, Allow, Deny, Value, Row, Statement, Policy, Context, Request}
+use Rattle.syntax.specs.Policy.{Effect, Allow, Deny, Row, Statement, Policy, Context, Request}
 use Rattle.syntax.specs.Forms.{both, either}
 use Rattle.held.specs.Held.{any_of}
 use Rattle.decision.specs.Matching.{matches}
 use Rattle.decision.specs.Decision.{typed, meets, Found, nothing, found, value_at, Result, holds, fails, result_with}
 use Rattle.decision.specs.Decision.{other-type, no-entry, action, resource}
-use Rattle.decision.specs.Decision.{row_result, Part, none, row, behind_row, rows_from, part_of, is_none, same_effect, first_of}
-use Rattle.decision.specs.Decision.{by_allow, by_deny, decide}
+use Rattle.decision.specs.Decision.{row_result, Part, behind_row, rows_from, part_of, is_none, same_effect, first_of}
+use Rattle.decision.specs.Decision.{by_deny, decide}
 use Rattle.demands.specs.Narrowing.{is_allowed}
 
 -- ---- rows

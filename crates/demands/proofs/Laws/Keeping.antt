@@ -2,10 +2,10 @@
 --   Covered s f xs      the row xs of the slot s covers the value f, if there is one;  AllCovered   of rows
 --   rows_cover          the rows of a room that comes of a log cover what each of its records charges
 --   list_keeps          a list that matches a value keeps an entry that matches it
-use mathlib.Core.Path.{◌≡◌, refl, sym, ap, ◌∙◌, subst}
+use mathlib.Core.Path.{◌≡◌, refl, ap, ◌∙◌, subst}
 use mathlib.Core.Bool.{Bool, true, false}
 use mathlib.Core.List.{List, [], ◌∷◌, ◌++◌}
-use Prim.Native.Nat.{ℕ, zero, suc, ◌+◌, ◌*◌}
+use Prim.Native.Nat.{ℕ, suc, ◌+◌, ◌*◌}
 use native.Mathlib.Omega.{arith}
 use lib.ListN.{length, take, drop}
 use lib.Seq.{drop-drop}
@@ -16,9 +16,9 @@ use Rattle.held.specs.Held.{any_of}
 use Rattle.decision.specs.Decision.{Found, nothing, found}
 use Rattle.candidates.specs.Candidates.{Candidate, Content, empty, holds, Kind, Covers, Holds}
 use Rattle.candidates.specs.Candidates as C
-use Rattle.candidates.specs.Entries.{Place, meets_at, refined, kind_of}
+use Rattle.candidates.specs.Entries.{Place, meets_at, refined}
 use Rattle.candidates.specs.Rows.{row_numbers, content_of}
-use Rattle.rooms.specs.Rooms.{Slot, slot_kind, slots_at, hit, hits}
+use Rattle.rooms.specs.Rooms.{Slot, slot_kind, slots_at, hits}
 use Rattle.refined.specs.Finishing.{kept_by, kept, behind}
 use Rattle.candidates.proofs.Laws.Refined.{refines}
 use Rattle.rooms.specs.Rooms.{found_at}

@@ -4,16 +4,15 @@ use mathlib.Core.Bool.{Bool, true, false}
 use mathlib.Core.List.{List, [], ◌∷◌, ◌++◌, map, append_assoc}
 use Prim.Native.Nat.{ℕ, ◌+◌, ◌*◌}
 use native.Mathlib.Omega.{arith}
-use lib.ListN.{length, take, drop, length-append}
+use lib.ListN.{length, drop, length-append}
 use lib.Seq.{drop-drop}
 use Rattle.chars.specs.Base.{pick}
 use Rattle.syntax.specs.Policy.{Effect, Allow, Deny, Value, text, Row, Statement, Policy, Context, Request}
 use Rattle.syntax.specs.Forms.{both, either}
 use Rattle.held.specs.Held.{any_of}
-use Rattle.policy.specs.Reading.{known, policy_rules, record_rules, Says}
 use Rattle.parts.proofs.Laws.Slots.{both_true}
 use Rattle.decision.specs.Matching.{matches}
-use Rattle.decision.specs.Decision.{typed, meets, Found, nothing, found, value_at, same_effect, is_none, part_of, decide}
+use Rattle.decision.specs.Decision.{typed, meets, Found, nothing, found, value_at, same_effect, decide}
 use Rattle.decision.specs.declared.deciding.Decision.{Decision}
 use Rattle.decision.specs.declared.deciding.Decision.TheVariants.{Denied, Allowed, Implicit}
 use Rattle.candidates.specs.Entries.{Place, in_action, in_resource, in_row, meets_at, wild_kind, kind_of}
@@ -22,12 +21,10 @@ use Rattle.rooms.specs.Rooms.{Slot, slots_at, row_slots, statement_slots, slots,
 use Rattle.rooms.specs.Rooms.{is_charged, statement_charges, allowed_charges, by_decision, charges}
 use Rattle.refined.specs.Finishing.{kept, behind, text_of, kept_texts, kept_rows, has_some, all_some, is_whole, kept_statement}
 use Rattle.refined.specs.Finishing.{left_by, refined_policy}
-use Rattle.demands.specs.Logs.{Bytes, Comes}
-use Rattle.rooms.specs.Rooms.{found_at}
 use Rattle.demands.specs.Charges.{Charged}
 use Rattle.demands.specs.Narrowing.{is_allowed}
 use Rattle.demands.specs.Narrowing as N
-use Rattle.demands.proofs.Laws.Rooms.{RowsHold, rows_fit}
+use Rattle.demands.proofs.Laws.Rooms.{rows_fit}
 use Rattle.demands.proofs.Laws.Logs.{comes_holds}
 use Rattle.demands.proofs.Laws.Deciding.{held_by, all_held, matched, part_matched, some, not, allowed_is}
 use Rattle.demands.proofs.Laws.Narrowing.{false_true, either_right, any, list_fits, texts_any, kept_any}

@@ -5,7 +5,7 @@ use mathlib.Core.Bool.{Bool, true, false}
 use mathlib.Core.Logic.{◌⊎◌, inl, inr}
 use mathlib.Core.List.Memᴰ
 use mathlib.Core.List.{List, [], ◌∷◌, ◌++◌, Memᴰ}
-use Prim.Native.Nat.{ℕ, ◌*◌, ◌≤◌}
+use Prim.Native.Nat.{ℕ}
 use native.Mathlib.Omega.{arith}
 use lib.Dec.{eqb}
 use lib.ListN.{length, replicate, length-replicate}
@@ -14,13 +14,9 @@ use Rattle.syntax.specs.Policy.{Value, Policy, Request}
 use Rattle.policy.specs.Reading.{Outcome, refused, known, Rules, policy_rules, record_rules, Says}
 use Rattle.policy.specs.declared.refusals.Refusal.{Refusal}
 use Rattle.policy.proofs.Laws.Reading.{outcome, says_some, says_unique}
-use Rattle.decision.specs.Decision.{Found, nothing, found, decide}
 use Rattle.decision.specs.declared.deciding.Decision.{Decision}
-use Rattle.decision.specs.declared.deciding.Decision.TheVariants.{Denied, Allowed, Implicit}
 use Rattle.candidates.specs.Candidates.{Alike}
-use Rattle.candidates.specs.Rows.{row_numbers}
 use Rattle.rooms.specs.Rooms.{slots, charges, fed, met}
-use Rattle.rooms.specs.Walking.{Right}
 use Rattle.refine.specs.Operations.{done, room_numbers, is_room, holds_for, Feeds, Joins, Finishes}
 use Rattle.refine.specs.Operations as O
 use Rattle.refine.proofs.Laws.Held.{sound_read, rows_enough, room_size, right_charges}

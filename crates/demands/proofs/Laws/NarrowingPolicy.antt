@@ -1,31 +1,25 @@
 -- Whatever a refined policy allows, the policy that it was made of allows.
-use mathlib.Core.Path.{◌≡◌, refl, sym, ap, ◌∙◌, subst}
+use mathlib.Core.Path.{◌≡◌, refl, sym, ap, ◌∙◌}
 use mathlib.Core.Bool.{Bool, true, false}
 use mathlib.Core.List.{List, [], ◌∷◌, ◌++◌, map, append_assoc}
 use Prim.Native.Nat.{ℕ, ◌+◌, ◌*◌}
 use native.Mathlib.Omega.{arith}
-use lib.ListN.{length, take, drop, length-append}
+use lib.ListN.{length, take, drop}
 use lib.Seq.{drop-drop}
 use Rattle.chars.specs.Base.{pick}
-use Rattle.syntax.specs.Policy.{Effect, Allow, Deny, Value, text, number, Row, Statement, Policy, Context, Request}
+use Rattle.syntax.specs.Policy.{Effect, Allow, Deny, Value, text, Row, Statement, Policy, Context, Request}
 use Rattle.syntax.specs.Forms.{both, either}
 use Rattle.held.specs.Held.{any_of}
 use Rattle.parts.proofs.Laws.Slots.{both_true}
 use Rattle.decision.specs.Matching.{matches}
-use Rattle.decision.specs.Decision.{typed, meets, Found, nothing, found, value_at, same_effect, decide}
-use Rattle.candidates.specs.Candidates.{Candidate, itself, single, under, up_to, Content, empty, holds, Kind, is_content, Covers}
-use Rattle.candidates.specs.Entries.{Place, in_action, in_resource, in_row, meets_at, refined, wild_kind, kind_of}
-use Rattle.candidates.specs.Rows.{row_numbers, content_of, is_row}
+use Rattle.decision.specs.Decision.{typed, meets, Found, nothing, found, value_at, same_effect}
+use Rattle.candidates.specs.Entries.{Place, in_action, in_resource, in_row, kind_of}
+use Rattle.candidates.specs.Rows.{row_numbers, is_row}
 use Rattle.rooms.specs.Rooms.{Slot, slots_at, row_slots, statement_slots, slots, row_fits, fits}
-use Rattle.refined.specs.Finishing.{kept_by, kept, behind, text_of, kept_texts, kept_rows, is_whole, kept_statement, left_by}
+use Rattle.refined.specs.Finishing.{kept, behind, kept_texts, kept_rows, is_whole, kept_statement, left_by}
 use Rattle.refined.specs.Finishing.{refined_policy}
-use Rattle.refine.specs.Operations.{holds_for}
-use Rattle.candidates.proofs.Laws.Entries.{lawful, whole_meets}
-use Rattle.candidates.proofs.Laws.FittingWild.{number_not}
-use Rattle.rooms.proofs.Laws.Handling.{made}
-use Rattle.candidates.proofs.Laws.Refined.{refines}
-use Rattle.demands.specs.Narrowing.{is_allowed, Narrows}
-use Rattle.demands.proofs.Laws.Narrowing.{false_true, either_right, either_to, both_to, list_fits, kept_narrows}
+use Rattle.demands.specs.Narrowing.{Narrows}
+use Rattle.demands.proofs.Laws.Narrowing.{either_right, either_to, both_to, list_fits, kept_narrows}
 use Rattle.demands.proofs.Laws.Narrowing.{texts_narrow}
 use Rattle.demands.proofs.Laws.Deciding.{held_by, all_held, matched, some, not, allowed_is}
 

@@ -5,8 +5,7 @@ use mathlib.Core.List.{List, []}
 use Prim.Native.Nat.{ℕ}
 use native.Mathlib.Omega.{arith}
 use Rattle.chars.specs.Base.{pick}
-use Rattle.syntax.specs.Policy.{Policy, Request}
-use Rattle.policy.specs.Reading.{Outcome, refused, known, policy_rules, record_rules, Says}
+use Rattle.policy.specs.Reading.{Outcome, refused, known, policy_rules, record_rules}
 use Rattle.policy.specs.declared.refusals.Refusal.{Refusal}
 use Rattle.policy.specs.declared.refusals.Refusal.TheVariants.{RoomLength}
 use Rattle.policy.proofs.Laws.Reading.{outcome}
@@ -21,7 +20,7 @@ use Rattle.refine.specs.Operations as O
 use Rattle.refine.proofs.Laws.Operations.{feeds_unique, joins_unique, finishes_unique}
 use Rattle.refine.proofs.Laws.Outcomes.{feeds_some, joins_some, finishes_some, feed_keeps, join_keeps, finish_keeps}
 use Rattle.demands.specs.Logs.{Bytes}
-use Rattle.demands.specs.Outcomes.{Determined, DecidesOnly, Ends, AllEnd, DecideAnswers, FeedAnswers}
+use Rattle.demands.specs.Outcomes.{Determined, DecidesOnly, AllEnd, DecideAnswers, FeedAnswers}
 
 -- ---- one law: an outcome, no other, and refused ones keep
 

@@ -3,22 +3,21 @@
 --   rows_fit, rows_fed, rows_met, rows_same, rows_empty    of whole rooms what Laws/Rows says of one row
 use mathlib.Core.Path.{◌≡◌, refl, sym, ap, ◌∙◌, subst}
 use mathlib.Core.Bool.{Bool, true, false}
-use mathlib.Core.Logic.{◌⊎◌, inl, inr}
+use mathlib.Core.Logic.{◌⊎◌}
 use mathlib.Core.List.{List, [], ◌∷◌, ◌++◌}
-use Prim.Native.Nat.{ℕ, zero, suc, ◌+◌, ◌-◌, ◌*◌, ◌≤◌}
+use Prim.Native.Nat.{ℕ, suc, ◌+◌, ◌-◌, ◌*◌, ◌≤◌}
 use native.Mathlib.Omega.{arith}
-use lib.ListN.{length, get_or, take, drop, replicate, length-append, length-drop, length-take, take-append-drop}
+use lib.ListN.{length, take, drop, length-append, length-drop, length-take, take-append-drop}
 use lib.Seq.{take_at, drop_at, drop-drop}
 use borrow.Author.Tests.{eq-eqb}
 use Rattle.chars.specs.Base.{pick}
 use Rattle.syntax.specs.Policy.{Value}
 use Rattle.syntax.specs.Forms.{both}
-use Rattle.decision.specs.Decision.{Found, nothing, found}
+use Rattle.decision.specs.Decision.{Found}
 use Rattle.candidates.specs.Candidates.{Alike}
-use Rattle.candidates.specs.Candidates as C
-use Rattle.candidates.specs.Rows.{row_numbers, padded, row, is_zero}
-use Rattle.rooms.specs.Rooms.{Slot, row_fits, fits, row_fed, fed, row_met, met}
-use Rattle.rooms.specs.Walking.{RightAt, Right, all_right, one_right}
+use Rattle.candidates.specs.Rows.{row_numbers, is_zero}
+use Rattle.rooms.specs.Rooms.{Slot, fits, row_fed, fed, row_met, met}
+use Rattle.rooms.specs.Walking.{Right, all_right, one_right}
 use Rattle.rooms.specs.Rooms.{found_at, row_at}
 use Rattle.demands.specs.Charges.{At, here, there}
 use Rattle.demands.proofs.Laws.Rows.{RowHolds, empty_holds, And, row_fed_lem, row_met_lem, row_same, row_alike}

@@ -4,35 +4,31 @@
 --   rows_fed, rows_met  what is fed and joined is right again
 --   rows-same           the same values, the same numbers
 use mathlib.Core.Path.{◌≡◌, refl, sym, ap, ◌∙◌, subst}
-use mathlib.Core.Bool.{Bool, true, false}
+use mathlib.Core.Bool.{Bool, true}
 use mathlib.Core.Logic.{◌⊎◌, inl, inr}
-use mathlib.Core.List.{List, [], ◌∷◌, ◌++◌}
-use Prim.Native.Nat.{ℕ, zero, suc, ◌+◌, ◌-◌, ◌*◌, ◌≤◌, ◌<◌}
+use mathlib.Core.List.{List}
+use Prim.Native.Nat.{ℕ}
 use native.Mathlib.Omega.{arith}
 use lib.Dec.{leb}
-use lib.ListN.{length, get_or, take, drop, replicate, length-append, length-drop, take-append-drop}
-use lib.Seq.{take_at, drop_at, length-take-le}
+use lib.ListN.{length, get_or}
 use Rattle.chars.specs.Base.{pick}
-use Rattle.syntax.specs.Policy.{Effect, Allow, Deny, Value, text, number}
-use Rattle.syntax.specs.Forms.{both, same}
-use Rattle.syntax.proofs.Laws.Same.{same_complete}
-use Rattle.parts.proofs.Laws.Slots.{both_true}
+use Rattle.syntax.specs.Policy.{Effect, Allow, Deny, Value}
 use Rattle.decision.specs.Decision.{same_effect, Found, nothing, found}
 use Rattle.candidates.specs.Candidates.{Candidate, itself, single, under, up_to, Content, empty, holds, Kind, Lawful}
 use Rattle.candidates.specs.Candidates.{is_content, joined, charged, Covers, Holds, Alike}
 use Rattle.candidates.specs.Candidates as C
-use Rattle.candidates.specs.Beginnings.{shared, longest_up_to, longest}
-use Rattle.candidates.specs.Kinds.{only, never, bounds, text_of, one_text}
-use Rattle.candidates.specs.Entries.{Place, before, legal_beginning, wild_kind, meets_at}
-use Rattle.candidates.specs.Rows.{row_numbers, text_characters, padded, row, content_of, is_row, is_zero}
-use Rattle.candidates.specs.Joining.{Textual, no_text, whole_text, one_text_lem, begun_text, Numeric, no_number, one_number}
-use Rattle.rooms.specs.Rooms.{Slot, slot_kind, row_fits, fits, row_fed, fed, row_met, met}
-use Rattle.rooms.specs.Walking.{Chargeable, RightAt, Right, all_right, one_right}
+use Rattle.candidates.specs.Beginnings.{shared, longest_up_to}
+use Rattle.candidates.specs.Kinds.{only, bounds}
+use Rattle.candidates.specs.Entries.{wild_kind}
+use Rattle.candidates.specs.Rows.{row_numbers, padded, row, content_of, is_row, is_zero}
+use Rattle.candidates.specs.Joining.{Textual, Numeric, no_number, one_number}
+use Rattle.rooms.specs.Rooms.{Slot, slot_kind, row_fits, row_fed, row_met}
+use Rattle.rooms.specs.Walking.{RightAt}
 use Rattle.candidates.proofs.Laws.Contents.{holds_alike, holds_content, holds_unique, joined_holds}
-use Rattle.candidates.proofs.Laws.Entries.{lawful, whole_meets}
+use Rattle.candidates.proofs.Laws.Entries.{whole_meets}
 use Rattle.candidates.proofs.Laws.Bounding.{counted, counted_size}
 use Rattle.candidates.proofs.Laws.Joining.{standing}
-use Rattle.rooms.proofs.Laws.Handling.{Handled, denied, alone, wild, bound, handles, few}
+use Rattle.rooms.proofs.Laws.Handling.{Handled, denied, alone, wild, bound, handles}
 use Rattle.rooms.proofs.Laws.Handling.{Mark, no_mark, a_mark, mark_only}
 use Rattle.rooms.proofs.Laws.HandlingRows.{kind_row, number_of, text_of_lem, content_none, zero_first}
 use Rattle.rooms.proofs.Laws.Lengths.{charged_size, joined_textual}

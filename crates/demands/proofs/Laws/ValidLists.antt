@@ -1,30 +1,26 @@
 -- What is kept of valid entries and rows is valid, and within the limits.
 use mathlib.Core.Path.{◌≡◌, refl, sym, ap, ◌∙◌, subst}
 use mathlib.Core.Bool.{Bool, true, false, not}
-use mathlib.Core.List.{List, [], ◌∷◌, ◌++◌, map}
-use Prim.Native.Nat.{ℕ, ◌+◌, ◌*◌, ◌≤◌}
+use mathlib.Core.List.{List, [], ◌∷◌, map}
+use Prim.Native.Nat.{ℕ, ◌≤◌}
 use native.Mathlib.Omega.{arith}
-use lib.Dec.{ltb}
 use lib.ListN.{length, take, drop}
 use Rattle.chars.specs.Base.{pick}
-use Rattle.syntax.specs.Limits.{key_characters, most_rows}
-use Rattle.syntax.specs.Policy.{Allow, Operator, Value, text, number, Row}
+use Rattle.syntax.specs.Policy.{Operator, Value, Row}
 use Rattle.syntax.specs.Forms.{both, either, same_key}
 use Rattle.syntax.specs.Members.{has_like, differ}
 use Rattle.syntax.specs.PolicyLayout.{Group, same_row, same_operator, same_group}
-use Rattle.held.specs.Held.{any_of, long_text, long_value, row_over, rows_over, row_entries, total_of}
+use Rattle.held.specs.Held.{any_of, long_value}
 use Rattle.parts.proofs.Laws.Slots.{both_true}
 use Rattle.writing.specs.WrittenForm.{joining, grouped}
 use Rattle.writing.specs.Valid as Each
 use Rattle.writing.specs.Valid.{Each, Some, ValidAction, ValidResource, ValidValue, ValidRow, ValidRows}
-use Rattle.candidates.specs.Candidates.{Candidate, Content, empty, holds}
-use Rattle.candidates.specs.Entries.{Place, in_action, in_resource, in_row, refined, kind_of}
+use Rattle.candidates.specs.Candidates.{Content, empty, holds}
+use Rattle.candidates.specs.Entries.{Place, kind_of}
 use Rattle.candidates.specs.Rows.{row_numbers, content_of, is_row}
-use Rattle.rooms.specs.Rooms.{Slot, slots_at, row_slots, fits}
-use Rattle.refined.specs.Finishing.{kept_by, kept, behind, text_of, kept_texts, kept_rows, has_some, all_some}
+use Rattle.refined.specs.Finishing.{kept_by, kept, behind, kept_rows, has_some}
 use Rattle.candidates.proofs.Laws.Refined.{ValidAt, refines}
 use Rattle.demands.proofs.Laws.Narrowing.{false_true, list_fits, candidate}
-use Rattle.demands.proofs.Laws.NarrowingPolicy.{fits_list}
 
 -- ---- one list
 

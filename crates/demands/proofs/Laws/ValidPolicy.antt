@@ -1,33 +1,27 @@
 -- A refined policy is valid and within the limits; so what Finish writes reads back as it.
-use mathlib.Core.Path.{◌≡◌, refl, sym, ap, ◌∙◌, subst}
-use mathlib.Core.Bool.{Bool, true, false, not}
+use mathlib.Core.Path.{◌≡◌, refl, sym, ap, ◌∙◌}
+use mathlib.Core.Bool.{true, false}
 use mathlib.Core.List.{List, [], ◌∷◌, ◌++◌, map, append_assoc}
-use Prim.Native.Nat.{ℕ, ◌+◌, ◌*◌, ◌≤◌}
+use Prim.Native.Nat.{ℕ, ◌≤◌}
 use native.Mathlib.Omega.{arith}
 use lib.Dec.{ltb}
-use lib.ListN.{length, take, drop}
-use borrow.Author.Tests.{le-ltb, ltb-false}
-use Rattle.chars.specs.Base.{pick}
-use Rattle.syntax.specs.Limits.{most_statements, most_entries, most_rows, key_characters}
-use Rattle.syntax.specs.Policy.{Effect, Allow, Deny, Operator, Value, text, number, Row, Statement, Policy}
+use lib.ListN.{length}
+use Rattle.syntax.specs.Limits.{most_rows, key_characters}
+use Rattle.syntax.specs.Policy.{Allow, Value, text, number, Row, Statement}
 use Rattle.syntax.specs.Forms.{both, either}
-use Rattle.syntax.specs.Members.{has_like, differ}
-use Rattle.syntax.specs.PolicyLayout.{same_sid}
 use Rattle.held.specs.Held.{any_of, long_text, long_value, row_over, rows_over, statement_over, total_of, row_entries}
-use Rattle.held.specs.Held.{statement_entries, entries, over_limit}
+use Rattle.held.specs.Held.{statement_entries}
 use Rattle.parts.proofs.Laws.Slots.{both_true}
-use Rattle.decision.specs.Decision.{same_effect}
 use Rattle.writing.specs.Valid as Each
 use Rattle.writing.specs.Valid.{Each, Some, ValidAction, ValidResource, ValidValue, ValidRow, ValidRows, ValidStatement}
 use Rattle.writing.specs.Valid.{Valid}
 use Rattle.candidates.specs.Entries.{Place, in_action, in_resource, in_row}
-use Rattle.rooms.specs.Rooms.{Slot, slots_at, row_slots, statement_slots, slots, fits}
+use Rattle.rooms.specs.Rooms.{Slot, slots_at, row_slots, fits}
 use Rattle.refined.specs.Finishing.{kept, behind, text_of, kept_texts, kept_rows, has_some, all_some, is_whole, kept_statement}
-use Rattle.refined.specs.Finishing.{left_by, refined_policy, has_allow}
 use Rattle.candidates.proofs.Laws.Refined.{ValidAt}
-use Rattle.demands.proofs.Laws.Narrowing.{false_true, list_fits}
-use Rattle.demands.proofs.Laws.NarrowingPolicy.{fits_list, behind_texts, skip, slots_allow, allow_slots}
-use Rattle.demands.proofs.Laws.ValidLists.{either_none, both_false, ListValid, kept_valid, kept_few, each_some}
+use Rattle.demands.proofs.Laws.Narrowing.{list_fits}
+use Rattle.demands.proofs.Laws.NarrowingPolicy.{fits_list, behind_texts, allow_slots}
+use Rattle.demands.proofs.Laws.ValidLists.{either_none, both_false, kept_valid, kept_few, each_some}
 use Rattle.demands.proofs.Laws.ValidLists.{kept_keys, kept_operators}
 
 pub some_each : {A : Type 0} {P : A → Type 0} {xs : List A} → Some A P xs → Each A P xs

@@ -1,5 +1,5 @@
 -- A run of another length is refused untouched; otherwise the numbers are those of reading's answer.
-use mathlib.Core.Path.{refl}
+use Rattle.std.specs.Prelude.{refl}
 use Rattle.held.specs.Held.{held}
 use Rattle.policy.specs.Reading.{policy_rules}
 use Rattle.policy_probe.specs.Numbers.{unfit}
@@ -11,6 +11,4 @@ returns-then-run-ne-RUN c = unfit c.if-run-ne-RUN.true refl
 
 pub returns : goal.returns
 returns c =
-    tells policy_rules held _ _ _ c.read_policy-r.result
-    c.if-run-ne-RUN.false c.read_policy-r.ensures
-    c.numbers.ensures
+    tells policy_rules held _ _ _ c.read_policy-r.result c.if-run-ne-RUN.false c.read_policy-r.ensures c.numbers.ensures

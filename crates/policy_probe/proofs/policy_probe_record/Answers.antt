@@ -1,5 +1,5 @@
 -- A run of another length is refused untouched; otherwise the numbers are those of reading's answer.
-use mathlib.Core.Path.{refl}
+use Rattle.std.specs.Prelude.{refl}
 use Rattle.held.specs.Held.{held_request}
 use Rattle.policy.specs.Reading.{record_rules}
 use Rattle.policy_probe.specs.Numbers.{unfit}
@@ -11,6 +11,4 @@ returns-then-run-ne-RUN c = unfit c.if-run-ne-RUN.true refl
 
 pub returns : goal.returns
 returns c =
-    tells record_rules held_request _ _ _ c.read_record-r.result
-    c.if-run-ne-RUN.false c.read_record-r.ensures
-    c.numbers.ensures
+    tells record_rules held_request _ _ _ c.read_record-r.result c.if-run-ne-RUN.false c.read_record-r.ensures c.numbers.ensures

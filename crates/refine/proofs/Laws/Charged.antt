@@ -1,7 +1,7 @@
 -- What a record charges: every value fits its slot, and its texts are within the limit.
 --   request_short    a request that was read has short texts
 --   charges_right    each value is one that its slot can be charged with
-use mathlib.Core.Path.{◌≡◌, refl, sym, ap, ◌∙◌, subst}
+use mathlib.Core.Path.{◌≡◌, refl, sym, subst}
 use mathlib.Core.Bool.{Bool, true, false}
 use mathlib.Core.List.{List, [], ◌∷◌, ◌++◌, map}
 use Prim.Native.Nat.{ℕ, ◌≤◌}
@@ -17,24 +17,21 @@ use Rattle.syntax.specs.Words.{context_key_type_word, context_key_values_word, s
 use Rattle.syntax.specs.Policy.{Effect, Allow, Deny, Value, text, Row, Statement, Policy, Context, Request}
 use Rattle.syntax.specs.Policy as P
 use Rattle.syntax.specs.Forms.{Reading, wrong, read, both, either, all, is_vendor, is_arn, same, same_key, number_in}
-use Rattle.syntax.specs.Members.{Slot, none, one, many, then, only, characters_of, is_word, slot, known, required}
+use Rattle.syntax.specs.Members.{Slot, none, one, many, only, characters_of, is_word, slot, known, required}
 use Rattle.syntax.specs.Members.{optional, each, differ}
 use Rattle.syntax.specs.RecordLayout.{only_one, short, is_plain, is_action_name, action_name_of, is_resource_arn}
 use Rattle.syntax.specs.RecordLayout.{resource_arn_of, key_name_of, as_number, typed_of, context_of, same_context, contexts_of}
 use Rattle.syntax.specs.RecordLayout.{request_of}
 use Rattle.parts.proofs.Laws.Fits.{wrong_read, then_inv, only_inv, pick_inv, cons_inv}
 use Rattle.parts.proofs.Laws.Slots.{both_true}
-use Rattle.decision.specs.Decision.{Found, nothing, found, value_at, same_effect, is_none, part_of, decide}
-use Rattle.decision.specs.declared.deciding.Decision.{Decision}
-use Rattle.decision.specs.declared.deciding.Decision.TheVariants.{Denied, Allowed, Implicit}
-use Rattle.writing.specs.Valid as Each
+use Rattle.decision.specs.Decision.{Found, nothing, found, value_at, same_effect, is_none, part_of}
 use Rattle.writing.specs.Valid.{Each}
 use Rattle.writing.proofs.Laws.TreeRead.{only_test}
 use Rattle.candidates.specs.Entries.{Place, in_action, in_resource, in_row, meets_at}
 use Rattle.rooms.specs.Rooms as R
 use Rattle.rooms.specs.Rooms.{slots_at, row_slots, statement_slots, slots, hit, hits, row_hits, statement_hits}
 use Rattle.rooms.specs.Rooms.{is_charged, statement_charges, allowed_charges, by_decision, charges}
-use Rattle.rooms.specs.Walking.{Short, Chargeable, RightAt, Right, all_right, one_right}
+use Rattle.rooms.specs.Walking.{Short, RightAt, Right, all_right, one_right}
 use Rattle.refine.specs.Sound.{ShortRequest}
 
 -- ---- a request that was read

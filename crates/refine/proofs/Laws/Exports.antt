@@ -1,7 +1,7 @@
 -- Numbers that an operation replies with: by whichever function they were made, they are an outcome's.
 --   replying         what an operation came to, and the numbers made of it
 --   replies_once     where no two outcomes pass, no two replies do
-use mathlib.Core.Path.{◌≡◌, refl, sym, ap, ◌∙◌, subst}
+use mathlib.Core.Path.{◌≡◌, sym, ap, subst}
 use Rattle.policy.specs.Reading.{Outcome}
 use Rattle.refine.specs.Exports.{Replies, replies}
 use Rattle.refine.specs.declared.exports.Reply.{Reply}

@@ -6,18 +6,16 @@
 use mathlib.Core.Path.{◌≡◌, refl, sym, ap, ◌∙◌, subst}
 use mathlib.Core.Bool.{Bool, true, false}
 use mathlib.Core.List.{List, [], ◌∷◌, ◌++◌}
-use Prim.Native.Nat.{ℕ, ◌+◌, ◌*◌, ◌≤◌}
+use Prim.Native.Nat.{ℕ, ◌*◌, ◌≤◌}
 use native.Mathlib.Omega.{arith}
 use lib.Dec.{ltb, eqb}
 use lib.ListN.{length, take, drop, take-append-drop, length-replicate}
 use borrow.Author.Tests.{ltb-false, eqb-true, eq-eqb}
-use Rattle.text.specs.Verdicts.{Text}
 use Rattle.text.specs.Json.{Json}
-use Rattle.syntax.specs.Limits.{most_statements, most_entries, run_numbers}
+use Rattle.syntax.specs.Limits.{most_statements, most_entries}
 use Rattle.syntax.specs.Policy.{Policy, Request}
 use Rattle.syntax.specs.Forms.{Reading, wrong, read, either}
-use Rattle.held.specs.Held.{held_each, held, held_request, entries, over_limit, any_of, statement_over}
-use Rattle.held.specs.Lying.{Lies}
+use Rattle.held.specs.Held.{held, entries, over_limit, any_of, statement_over}
 use Rattle.policy.specs.Reading.{Outcome, refused, known, request_comes, policy_rules, record_rules, Says, long, broken}
 use Rattle.policy.specs.Reading.{deep, text}
 use Rattle.syntax.specs.RecordLayout.{request_of}
@@ -27,7 +25,7 @@ use Rattle.decision.specs.declared.deciding.Decision.TheVariants.{Denied, Allowe
 use Rattle.restate.proofs.Laws.Operations.{read_limits, read_valid}
 use Rattle.candidates.specs.Rows.{row_numbers}
 use Rattle.rooms.specs.Rooms.{Slot, slots, none, allowed_charges, by_decision, charges, fed, met}
-use Rattle.rooms.specs.Listing.{noted, note_numbers, Told, Lists, Listable}
+use Rattle.rooms.specs.Listing.{Lists, Listable}
 use Rattle.rooms.specs.Walking.{Listed, Right, Roomy, Fed, Met}
 use Rattle.refine.specs.Operations.{room_numbers, is_room, holds_for, Feeds, Joins, Finishes, Done, done}
 use Rattle.refine.specs.Operations as O

@@ -4,28 +4,25 @@
 use mathlib.Core.Path.{◌≡◌, refl, sym, ap, ◌∙◌, subst}
 use mathlib.Core.Bool.{Bool, true, false}
 use mathlib.Core.List.{List, [], ◌∷◌, ◌++◌, map}
-use Prim.Native.Nat.{ℕ, ◌+◌, ◌*◌, ◌/◌, ◌≤◌, ◌<◌}
+use Prim.Native.Nat.{ℕ, ◌+◌, ◌*◌, ◌≤◌, ◌<◌}
 use native.Mathlib.Omega.{arith}
 use lib.Dec.{leb, ltb}
 use lib.ListN.{length, take, drop, length-append, length-drop}
 use lib.Seq.{length-take-le, drop-drop}
 use borrow.Author.Tests.{leb-true}
-use Rattle.chars.specs.Base.{pick}
 use Rattle.syntax.specs.Limits.{entry_characters, greatest}
-use Rattle.syntax.specs.Policy.{star, Effect, Allow, Deny, Operator, StringEquals, StringLike, NumericLessThanEquals}
+use Rattle.syntax.specs.Policy.{star, Effect, Allow, Deny, Operator}
 use Rattle.syntax.specs.Policy.{Value, text, number, Row, Statement, Policy}
 use Rattle.syntax.specs.Forms.{both, all}
-use Rattle.held.specs.Held.{mark}
 use Rattle.parts.proofs.Laws.Slots.{both_true}
-use Rattle.decision.specs.Decision.{same_effect}
 use Rattle.writing.specs.Valid as Each
 use Rattle.writing.specs.Valid.{Each, Some, ValidValue, equals, like, at_most, ValidRow, ValidStatement, Valid}
-use Rattle.candidates.specs.Candidates.{itself, single, under, up_to, Content, empty, holds, Kind, is_content}
+use Rattle.candidates.specs.Candidates.{under, Content, Kind, is_content}
 use Rattle.candidates.specs.Beginnings.{begins}
 use Rattle.candidates.specs.Kinds.{bounds}
 use Rattle.candidates.specs.Entries.{Place, in_action, in_resource, in_row, is_plain, is_legal, has_form, legal_beginning}
 use Rattle.candidates.specs.Entries.{wild_kind, before}
-use Rattle.candidates.specs.Rows.{row_numbers, text_characters, row, content_of, is_row}
+use Rattle.candidates.specs.Rows.{row_numbers, text_characters, content_of, is_row}
 use Rattle.candidates.specs.Joining.{Textual, no_text, whole_text, one_text_lem, begun_text, Numeric, no_number, one_number}
 use Rattle.rooms.specs.Rooms.{Slot, slot_kind, slots_at, row_slots, statement_slots, slots, row_fits, fits}
 use Rattle.refined.specs.Keeping.{Writable, Writ, WritRows, no_rows, a_row, row_values, statement_values, WritPolicy}

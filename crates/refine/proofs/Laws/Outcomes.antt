@@ -8,14 +8,11 @@ use native.Mathlib.Omega.{arith}
 use Rattle.syntax.specs.Policy.{Policy, Request}
 use Rattle.policy.specs.Reading.{Outcome, refused, known, policy_rules, record_rules, Says}
 use Rattle.policy.specs.declared.refusals.Refusal.{Refusal}
-use Rattle.policy.specs.declared.refusals.Refusal.TheVariants.{RoomLength, RoomContent, NoAllow}
 use Rattle.policy.proofs.Laws.Reading.{outcome, says_some}
-use Rattle.decision.specs.Decision.{decide}
 use Rattle.decision.specs.declared.deciding.Decision.{Decision}
 use Rattle.writing.specs.WrittenForm.{written_policy}
 use Rattle.restate.specs.Operations.{handed}
 use Rattle.restate.proofs.Laws.Operations.{handed_kept}
-use Rattle.rooms.specs.Rooms.{slots, charges, fed, met}
 use Rattle.refined.specs.Finishing.{refined_policy, has_allow}
 use Rattle.refine.specs.Operations.{is_room, holds_for, Done, done}
 use Rattle.refine.specs.Operations as O

@@ -6,7 +6,7 @@ use Prim.Native.Nat.{ℕ, suc, ◌+◌, ◌-◌, ◌/◌, ◌%◌, ◌≤◌, �
 use native.Mathlib.Omega.{arith}
 use lib.ListN.{length, get_or, set, drop, replicate, length-append}
 use lib.Seq.{lt-length-set}
-use Rattle.syntax.specs.Policy.{Value, text, number, star}
+use Rattle.syntax.specs.Policy.{Value, star}
 use Rattle.held.specs.Held.{mark, held_text, held_number}
 use Rattle.held.specs.Lying.{Lies}
 use Rattle.candidates.specs.Candidates.{Candidate, itself, single, under, up_to, Content, empty, holds}

@@ -7,7 +7,7 @@ use lib.ListN.{length, take}
 use borrow.Author.Tests.{lt-ltb, le-ltb}
 use Rattle.chars.specs.Putting.{lay}
 use Rattle.syntax.specs.Limits.{result_bytes}
-use Rattle.policy.specs.Reading.{Outcome, refused, known}
+use Rattle.policy.specs.Reading.{refused, known}
 use Rattle.policy.specs.declared.refusals.Refusal.TheVariants.{ResultLength, OutputLength}
 use Rattle.writing.specs.Showing.{Shows, Adds}
 use Rattle.writing.proofs.Laws.Showing.{shows_none, shows_end, shows_over}

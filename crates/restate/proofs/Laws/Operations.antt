@@ -5,7 +5,6 @@ use mathlib.Core.List.{List, [], ◌∷◌}
 use Prim.Native.Nat.{ℕ, ◌≤◌, ◌<◌}
 use native.Mathlib.Omega.{arith}
 use native.Mathlib.Decide.{dec_lt}
-use lib.Dec.{ltb}
 use lib.ListN.{length, take}
 use borrow.Author.Tests.{le-ltb}
 use Rattle.chars.specs.Base.{pick}
@@ -13,14 +12,14 @@ use Rattle.text.specs.Json.{Json, JsonText}
 use Rattle.chars.specs.Putting.{lay}
 use Rattle.text.proofs.Laws.Printing.{says_sound}
 use Rattle.syntax.specs.Limits.{policy_bytes, result_bytes}
-use Rattle.syntax.specs.Policy.{Policy, Request}
+use Rattle.syntax.specs.Policy.{Policy}
 use Rattle.syntax.specs.Forms.{Reading, wrong, read}
 use Rattle.syntax.specs.PolicyLayout.{policy_of}
 use Rattle.held.specs.Held.{over_limit}
-use Rattle.policy.specs.Reading.{Outcome, refused, known, policy_comes, policy_rules, record_rules, Says, long, broken}
+use Rattle.policy.specs.Reading.{Outcome, refused, known, policy_comes, policy_rules, Says, long, broken}
 use Rattle.policy.specs.Reading.{deep, text}
 use Rattle.policy.specs.declared.refusals.Refusal.{Refusal}
-use Rattle.policy.specs.declared.refusals.Refusal.TheVariants.{PolicyLimit, ResultLength, OutputLength}
+use Rattle.policy.specs.declared.refusals.Refusal.TheVariants.{PolicyLimit}
 use Rattle.policy.proofs.Laws.Reading.{by_verdict, outcome, says_some, says_is, says_unique}
 use Rattle.decide.specs.Operations.{Decides, record_refused, decided}
 use Rattle.decide.specs.Operations as D

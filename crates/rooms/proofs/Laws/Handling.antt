@@ -4,33 +4,32 @@
 --   fits-.., fed-.., met-..      one row tested, charged and joined, in each case
 use mathlib.Core.Path.{◌≡◌, refl, sym, ap, ◌∙◌, subst}
 use mathlib.Core.Bool.{Bool, true, false}
-use mathlib.Core.List.{List, [], ◌∷◌, ◌++◌}
-use Prim.Native.Nat.{ℕ, ◌+◌, ◌-◌, ◌≤◌, ◌<◌}
+use mathlib.Core.List.{List, [], ◌∷◌}
+use Prim.Native.Nat.{ℕ, ◌-◌, ◌≤◌}
 use native.Mathlib.Omega.{arith}
 use lib.Dec.{leb}
-use lib.ListN.{length, get_or, replicate, length-append, length-replicate}
+use lib.ListN.{length, get_or, replicate, length-append}
 use Rattle.chars.specs.Base.{pick}
-use Rattle.syntax.specs.Policy.{Effect, Allow, Deny, Operator, StringEquals, StringLike, NumericLessThanEquals}
+use Rattle.syntax.specs.Policy.{Effect, Allow, Deny, StringEquals, StringLike, NumericLessThanEquals}
 use Rattle.syntax.specs.Policy.{Value, text, number}
 use Rattle.syntax.specs.Forms.{both, same}
-use Rattle.held.specs.Held.{held_text, held_number, held_value}
+use Rattle.held.specs.Held.{held_number, held_value}
 use Rattle.held.specs.Lying.{Lies}
 use Rattle.held.proofs.Laws.Places.{Texted, texted}
 use Rattle.syntax.proofs.Laws.Same.{same_sound}
 use Rattle.parts.proofs.Laws.Slots.{both_true}
-use Rattle.decision.specs.Decision.{same_effect, found, meets}
+use Rattle.decision.specs.Decision.{same_effect}
 use Rattle.candidates.specs.Candidates.{Candidate, itself, single, under, up_to, Content, empty, holds, Kind}
 use Rattle.candidates.specs.Candidates.{is_content, joined, charged}
-use Rattle.candidates.specs.Beginnings.{shared, longest}
-use Rattle.candidates.specs.Kinds.{only, never, bounds, text_of, join_of_texts}
-use Rattle.candidates.specs.Entries.{Place, in_action, in_resource, in_row, comparison, meets_at, wild_kind, kind_of}
-use Rattle.candidates.specs.Rows.{row_numbers, text_characters, padded, row, content_of, is_row, is_zero}
+use Rattle.candidates.specs.Beginnings.{shared}
+use Rattle.candidates.specs.Kinds.{only, bounds, text_of}
+use Rattle.candidates.specs.Entries.{Place, in_action, in_resource, in_row, comparison, meets_at, wild_kind}
+use Rattle.candidates.specs.Rows.{row_numbers, padded, row, content_of, is_row, is_zero}
 use Rattle.candidates.specs.Joining.{Textual, no_text, whole_text, one_text_lem, begun_text, Numeric, no_number}
 use Rattle.candidates.specs.Joining.{one_number}
-use Rattle.rooms.specs.Rooms.{Slot, slot_kind, row_fits, row_fed, row_met}
+use Rattle.rooms.specs.Rooms.{Slot, slot_kind, row_fits}
 use Rattle.rooms.specs.Listing.{handling, handling_by, SlotAt}
-use Rattle.rooms.specs.Walking.{Chargeable}
-use Rattle.candidates.proofs.Laws.ChargingLeast.{longest_never, mark_row}
+use Rattle.candidates.proofs.Laws.ChargingLeast.{longest_never}
 use Rattle.candidates.proofs.Laws.FittingWild.{number_not}
 
 -- ---- the slot

@@ -2,7 +2,7 @@
 use mathlib.Core.Path.{◌≡◌, refl, sym, ap, ◌∙◌, subst}
 use mathlib.Core.Bool.{Bool, true, false}
 use mathlib.Core.List.{List, [], ◌∷◌}
-use Prim.Native.Nat.{ℕ, ◌≤◌, ◌<◌}
+use Prim.Native.Nat.{ℕ, ◌≤◌}
 use native.Mathlib.Omega.{arith}
 use lib.Dec.{eqb, leb}
 use lib.ListN.{length, get_or}
@@ -10,16 +10,16 @@ use borrow.Author.Tests.{eq-eqb, eqb-true}
 use Rattle.chars.specs.Base.{pick}
 use Rattle.syntax.specs.Limits.{entry_characters}
 use Rattle.syntax.specs.Policy.{Effect, Allow, Deny, Operator, StringLike, NumericLessThanEquals, Value, text, number}
-use Rattle.held.specs.Held.{held_text, held_number, held_value}
+use Rattle.held.specs.Held.{held_number, held_value}
 use Rattle.held.specs.Lying.{Lies}
 use Rattle.held.proofs.Laws.Parts.{IsText, IsNumber}
 use Rattle.held.proofs.Laws.Places.{Texted, texted}
 use Rattle.decision.specs.Decision.{meets, found}
-use Rattle.candidates.specs.Candidates.{itself, Content, empty, holds, Kind, joined, charged}
-use Rattle.candidates.specs.Kinds.{only, bounds}
-use Rattle.candidates.specs.Entries.{Place, comparison, wild_kind}
+use Rattle.candidates.specs.Candidates.{empty, Kind, joined, charged}
+use Rattle.candidates.specs.Kinds.{bounds}
+use Rattle.candidates.specs.Entries.{wild_kind}
 use Rattle.candidates.specs.Rows.{row_numbers, padded, row, content_of, is_row, is_zero}
-use Rattle.candidates.specs.Joining.{Textual, Texted as TextedRow, Numeric, Numbered}
+use Rattle.candidates.specs.Joining.{Texted as TextedRow, Numbered}
 use Rattle.rooms.specs.Rooms.{Slot, slot_kind, row_fits, row_fed, row_met}
 use Rattle.rooms.specs.Listing.{SlotAt}
 use Rattle.rooms.specs.Walking.{Chargeable, Short}

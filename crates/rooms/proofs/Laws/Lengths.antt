@@ -3,24 +3,23 @@
 --   feed_only       a feed changes only the rows of the entries that it charged
 use mathlib.Core.Path.{◌≡◌, refl, sym, ap, ◌∙◌, subst}
 use mathlib.Core.Bool.{Bool, true, false}
-use mathlib.Core.List.{List, [], ◌∷◌, ◌++◌}
+use mathlib.Core.List.{List, ◌∷◌, ◌++◌}
 use Prim.Native.Nat.{ℕ, zero, suc, ◌+◌, ◌*◌, ◌≤◌}
 use native.Mathlib.Omega.{arith}
 use lib.Dec.{leb}
 use lib.ListN.{length, take, drop, length-drop}
 use lib.Seq.{take_at, drop-drop, drop-append-add, length-take-le}
-use Rattle.syntax.specs.Policy.{Allow, Deny, Value, text, number, Policy, Request}
-use Rattle.held.proofs.Laws.Parts.{IsText, IsNumber}
+use Rattle.syntax.specs.Policy.{Allow, Deny, Value, text, number}
 use Rattle.parts.proofs.Laws.Slots.{both_true}
 use Rattle.decision.specs.Decision.{Found, nothing, found}
-use Rattle.candidates.specs.Candidates.{Candidate, itself, single, under, up_to, Content, empty, holds, Kind}
+use Rattle.candidates.specs.Candidates.{Candidate, itself, Content, empty, holds, Kind}
 use Rattle.candidates.specs.Candidates.{joined, charged}
 use Rattle.candidates.specs.Beginnings.{shared, longest}
-use Rattle.candidates.specs.Kinds.{only, never, bounds, text_of, one_text}
+use Rattle.candidates.specs.Kinds.{never, bounds, text_of, one_text}
 use Rattle.candidates.specs.Entries.{Place, before, legal_beginning, wild_kind}
 use Rattle.candidates.specs.Rows.{row_numbers, text_characters, padded, row, content_of}
-use Rattle.candidates.specs.Joining.{Textual, no_text, whole_text, one_text_lem, begun_text, Numeric, no_number, one_number}
-use Rattle.rooms.specs.Rooms.{Slot, slot_kind, slots, charges, row_fits, fits, row_fed, fed, found_at, row_at}
+use Rattle.candidates.specs.Joining.{Textual, whole_text, one_text_lem, begun_text, Numeric, no_number, one_number}
+use Rattle.rooms.specs.Rooms.{Slot, row_fits, fits, row_fed, fed, found_at, row_at}
 use Rattle.rooms.specs.Walking.{Chargeable, RightAt, Right, all_right, one_right}
 use Rattle.candidates.proofs.Laws.Bounding.{counted, counted_size}
 use Rattle.candidates.proofs.Laws.ChargingLeast.{mark_row}

@@ -1,9 +1,9 @@
 -- A walk over the list of a policy's entries and the rows of a room, side by side.
 --   Ahead ..         the notes from place d on, and as many rows from place a on;  ahead_start, ahead_next, ahead_end
 --   valued-..        what a note tells of a value
-use mathlib.Core.Path.{◌≡◌, refl, sym, ap, ◌∙◌, subst}
+use mathlib.Core.Path.{◌≡◌, refl, sym, ◌∙◌, subst}
 use mathlib.Core.List.{List, [], ◌∷◌}
-use Prim.Native.Nat.{ℕ, zero, suc, ◌+◌, ◌-◌, ◌*◌, ◌≤◌, ◌<◌}
+use Prim.Native.Nat.{ℕ, suc, ◌+◌, ◌-◌, ◌*◌, ◌≤◌, ◌<◌}
 use native.Mathlib.Omega.{arith}
 use lib.ListN.{length, get_or}
 use Rattle.syntax.specs.Limits.{run_numbers}

@@ -1,10 +1,10 @@
 -- What a walk over the rows of a room has tested, charged and joined so far.
 use mathlib.Core.Path.{◌≡◌, refl, sym, ap, ◌∙◌, subst}
 use mathlib.Core.Bool.{Bool, true, false}
-use mathlib.Core.List.{List, [], ◌∷◌, ◌++◌, append_assoc}
+use mathlib.Core.List.{List, ◌∷◌, ◌++◌, append_assoc}
 use Prim.Native.Nat.{ℕ, ◌+◌, ◌-◌, ◌*◌, ◌≤◌, ◌<◌}
 use native.Mathlib.Omega.{arith}
-use lib.ListN.{length, get_or, take, drop, length-append, take-append-drop}
+use lib.ListN.{length, take, drop, length-append, take-append-drop}
 use lib.Seq.{drop-drop, length-take-le, take_at, drop_at}
 use borrow.Rule.Slice.PartMut.{mid_of, put_mid, Post-is, mid_len, same_len_mid}
 use Rattle.syntax.specs.Forms.{both}
@@ -12,8 +12,7 @@ use Rattle.parts.proofs.Laws.Slots.{both_true}
 use Rattle.decision.specs.Decision.{Found}
 use Rattle.candidates.specs.Rows.{row_numbers, is_zero}
 use Rattle.rooms.specs.Rooms.{Slot, row_fits, fits, row_fed, fed, row_met, met}
-use Rattle.rooms.specs.Listing.{SlotAt, Valued}
-use Rattle.rooms.specs.Walking.{Listed, RightAt, Right, all_right, one_right}
+use Rattle.rooms.specs.Walking.{Listed, RightAt, Right, one_right}
 use Rattle.rooms.proofs.Laws.Walking.{Ahead, Next, ahead_start, ahead_next, ahead_end}
 
 -- ---- the row at a place

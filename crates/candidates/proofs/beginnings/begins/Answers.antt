@@ -1,7 +1,5 @@
 -- The characters passed are alike.
-use Prim.Native.Nat.{◌-◌}
-use lib.ListN.{length}
-use Rattle.candidates.proofs.Laws.Comparing.{Begins, begins_start, begins_short, begins_stop, begins_next}
+use Rattle.candidates.proofs.Laws.Comparing.{begins_start, begins_short, begins_stop, begins_next}
 use Rattle.candidates.proofs.Laws.Comparing.{begins_end}
 use Rattle.candidates.proofs.beginnings.begins.Goals as goal
 

@@ -1,8 +1,7 @@
 -- The characters passed are shared.
 use Prim.Native.Nat.{◌-◌}
 use lib.ListN.{length}
-use Rattle.candidates.proofs.Laws.Comparing.{Shared, shared_start, shared_short, shared_stop, shared_next}
-use Rattle.candidates.proofs.Laws.Comparing.{shared_end}
+use Rattle.candidates.proofs.Laws.Comparing.{Shared}
 use Rattle.candidates.proofs.beginnings.shared.Given as goal
 
 abbrev pub invariant-loop-i : goal.invariant-loop-i

@@ -1,9 +1,5 @@
 -- From the longest beginning on, each turn looks at one.
-use mathlib.Core.Path.{refl, sym, ◌∙◌}
-use native.Mathlib.Omega.{arith}
-use borrow.Author.Tests.{not-true, not-false}
-use Rattle.candidates.proofs.Laws.Charging.{Seeking, looking_start, looking_next, looking_found, looking_none}
-use Rattle.candidates.proofs.Laws.Charging.{part_short}
+use Rattle.candidates.proofs.Laws.Charging.{Seeking}
 use Rattle.candidates.proofs.charging.put_longest.Given as goal
 
 abbrev pub invariant-loop-n : goal.invariant-loop-n

@@ -1,7 +1,7 @@
 -- Test by test.
 use mathlib.Core.Path.{sym, ◌∙◌}
 use native.Mathlib.Omega.{arith}
-use borrow.Author.Tests.{not-true, not-false}
+use borrow.Author.Tests.{not-false}
 use Rattle.candidates.proofs.Laws.Counting.{final_some}
 use Rattle.candidates.proofs.Laws.FittingText.{under_long, under_tail, under_no_kind, under_legal}
 use mathlib.Core.Path.{ap}

@@ -3,7 +3,7 @@ use mathlib.Core.Path.{sym, ap, ◌∙◌}
 use Prim.Native.Nat.{ℕ}
 use native.Mathlib.Omega.{arith}
 use lib.Dec.{leb}
-use borrow.Author.Tests.{not-true, not-false}
+use borrow.Author.Tests.{not-false}
 use Rattle.candidates.proofs.Laws.Fitting.{row_zero}
 use Rattle.candidates.proofs.Laws.FittingBound.{bound_not, bound_tail, bound_held}
 use mathlib.Core.Bool.{not}

@@ -1,7 +1,7 @@
 -- Test by test.
 use mathlib.Core.Path.{sym, ◌∙◌}
 use native.Mathlib.Omega.{arith}
-use borrow.Author.Tests.{not-true, not-false}
+use borrow.Author.Tests.{not-false}
 use Rattle.candidates.proofs.Laws.FittingText.{single_long, single_tail, single_no_kind, single_no_match}
 use Rattle.candidates.proofs.Laws.FittingText.{single_legal}
 use mathlib.Core.Path.{ap}

@@ -7,12 +7,11 @@ pub put_least-requires : goal.put_least-requires
 put_least-requires c = (refl, c.requires.1)
 
 pub join_wild-requires : goal.join_wild-requires
-join_wild-requires c =
-    (
-      c.requires.2,
-      least_texted _ c.requires.1 c.requires.0.place _
-          (c.put_least.ensures c.requires.0.place c.requires.0.is),
-    )
+join_wild-requires c = (
+  c.requires.2,
+  least_texted _ c.requires.1 c.requires.0.place _
+      (c.put_least.ensures c.requires.0.place c.requires.0.is),
+)
 
 pub returns : goal.returns
 returns c =

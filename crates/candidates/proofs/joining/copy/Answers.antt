@@ -1,12 +1,11 @@
 -- Each turn stores one number.
 use mathlib.Core.Path.{ap, ◌∙◌}
 use mathlib.Core.List.{List}
-use Prim.Native.Nat.{ℕ, ◌-◌}
+use Prim.Native.Nat.{ℕ}
 use native.Mathlib.Omega.{arith}
-use lib.ListN.{length}
 use lib.Seq.{take-length}
 use Rattle.chars.specs.Putting.{lay}
-use Rattle.writing.proofs.Laws.Copying.{Copied, copied_start, copied_next, copied_length, copied_end}
+use Rattle.writing.proofs.Laws.Copying.{copied_start, copied_next, copied_length, copied_end}
 use Rattle.candidates.proofs.Laws.Joining.{lay_all}
 use Rattle.candidates.proofs.joining.copy.Goals as goal
 

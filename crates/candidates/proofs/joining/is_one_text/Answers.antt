@@ -1,9 +1,6 @@
 -- The mark of a single text, and all numbers alike.
-use mathlib.Core.Path.{ap, sym, ◌∙◌}
-use mathlib.Core.Bool.{Bool}
+use mathlib.Core.Path.{◌∙◌}
 use native.Mathlib.Omega.{arith}
-use borrow.Author.Tests.{eq-eqb, ne_eqb}
-use Rattle.syntax.specs.Forms.{both}
 use Rattle.candidates.proofs.Laws.Joining.{stands, one_not, one_same}
 use Rattle.candidates.proofs.joining.is_one_text.Goals as goal
 

@@ -1,5 +1,5 @@
 -- The first row is kept aside, and the longest legal beginning of what both share is put in its place.
-use mathlib.Core.Path.{refl, ap, ◌∙◌}
+use mathlib.Core.Path.{ap, ◌∙◌}
 use mathlib.Core.List.{List}
 use Prim.Native.Nat.{ℕ, ◌+◌, ◌-◌}
 use native.Mathlib.Omega.{arith}
@@ -68,12 +68,11 @@ slice_bounds-put_longest-end c =
     )
 
 pub put_longest-requires : goal.put_longest-requires
-put_longest-requires c =
-    (
-      (stands c.requires.0).size,
-      part_few (standing c.requires.0.content c.requires.0.textual
-          (c.copy.ensures ∙ c.requires.0.is)) (c.shared-n.result + 2 - 2),
-    )
+put_longest-requires c = (
+  (stands c.requires.0).size,
+  part_few (standing c.requires.0.content c.requires.0.textual
+      (c.copy.ensures ∙ c.requires.0.is)) (c.shared-n.result + 2 - 2),
+)
 
 pub returns : goal.returns
 returns c =

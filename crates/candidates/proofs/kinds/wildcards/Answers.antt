@@ -1,8 +1,6 @@
 -- The wildcards passed are counted.
-use Prim.Native.Nat.{◌-◌}
 use native.Mathlib.Omega.{arith}
-use lib.ListN.{length}
-use Rattle.candidates.proofs.Laws.Counting.{Counting, counting_start, counting_next, counting_end}
+use Rattle.candidates.proofs.Laws.Counting.{counting_start, counting_next, counting_end}
 use Rattle.candidates.proofs.kinds.wildcards.Goals as goal
 
 pub loop-i-init : goal.loop-i-init

@@ -1,8 +1,7 @@
 -- The wildcards passed are counted.
 use Prim.Native.Nat.{◌-◌}
-use native.Mathlib.Omega.{arith}
 use lib.ListN.{length}
-use Rattle.candidates.proofs.Laws.Counting.{Counting, counting_start, counting_next, counting_end}
+use Rattle.candidates.proofs.Laws.Counting.{Counting}
 use Rattle.candidates.proofs.kinds.wildcards.Given as goal
 
 abbrev pub invariant-loop-i : goal.invariant-loop-i

@@ -1,12 +1,7 @@
 -- All characters passed are plain.
-use mathlib.Core.Path.{◌≡◌, refl, sym, ◌∙◌}
-use Prim.Native.Nat.{◌-◌}
-use lib.ListN.{length, drop}
-use borrow.Author.Tests.{not-true, not-false}
-use Rattle.syntax.specs.Forms.{all}
+use mathlib.Core.Path.{refl, sym, ◌∙◌}
 use Rattle.syntax.proofs.Laws.Forms.{all_next, all_stop, all_end}
-use Rattle.candidates.specs.Entries.{Place, is_plain}
-use Rattle.candidates.specs.Places.{place_number}
+use Rattle.candidates.specs.Entries.{is_plain}
 use Rattle.candidates.proofs.legality.all_plain.Goals as goal
 
 pub loop-i-init : goal.loop-i-init

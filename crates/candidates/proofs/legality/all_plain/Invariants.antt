@@ -1,10 +1,8 @@
 -- All characters passed are plain.
-use mathlib.Core.Path.{◌≡◌, refl, sym, ◌∙◌}
+use mathlib.Core.Path.{◌≡◌}
 use Prim.Native.Nat.{◌-◌}
 use lib.ListN.{length, drop}
-use borrow.Author.Tests.{not-true, not-false}
 use Rattle.syntax.specs.Forms.{all}
-use Rattle.syntax.proofs.Laws.Forms.{all_next, all_stop, all_end}
 use Rattle.candidates.specs.Entries.{Place, is_plain}
 use Rattle.candidates.specs.Places.{place_number}
 use Rattle.candidates.proofs.legality.all_plain.Given as goal

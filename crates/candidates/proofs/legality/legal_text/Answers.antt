@@ -1,6 +1,6 @@
 -- Characters, length and form, one behind the other.
 use mathlib.Core.Path.{sym, ◌∙◌}
-use borrow.Author.Tests.{not-true, not-false}
+use borrow.Author.Tests.{not-true}
 use Rattle.candidates.proofs.Laws.Forming.{text_not_plain, text_long, text_formed}
 use mathlib.Core.Path.{ap}
 use mathlib.Core.Bool.{not}

@@ -1,8 +1,6 @@
 -- Each turn stores one character; the star is stored behind them.
-use Prim.Native.Nat.{◌-◌}
 use native.Mathlib.Omega.{arith}
-use lib.ListN.{length}
-use Rattle.candidates.proofs.Laws.Forming.{Copying, copying_start, copying_next, copying_end, starts_as}
+use Rattle.candidates.proofs.Laws.Forming.{copying_start, copying_next, copying_end, starts_as}
 use Rattle.candidates.proofs.legality.put_starred.Goals as goal
 
 pub loop-i-init : goal.loop-i-init

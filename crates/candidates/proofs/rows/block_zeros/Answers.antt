@@ -1,8 +1,8 @@
 -- The numbers of the block are put together one by one.
-use Prim.Native.Nat.{◌≤◌, ◌-◌, ◌+◌}
+use Prim.Native.Nat.{◌+◌}
 use native.Mathlib.Omega.{arith}
 use Rattle.candidates.specs.Rows.{row_numbers}
-use Rattle.candidates.proofs.Laws.Rows.{Together, together_start, together_next, together_zero}
+use Rattle.candidates.proofs.Laws.Rows.{together_start, together_next, together_zero}
 use Rattle.candidates.proofs.rows.block_zeros.Goals as goal
 
 pub loop-j-init : goal.loop-j-init

@@ -1,8 +1,7 @@
 -- The numbers of the block are put together one by one.
 use Prim.Native.Nat.{◌≤◌, ◌-◌, ◌+◌}
-use native.Mathlib.Omega.{arith}
 use Rattle.candidates.specs.Rows.{row_numbers}
-use Rattle.candidates.proofs.Laws.Rows.{Together, together_start, together_next, together_zero}
+use Rattle.candidates.proofs.Laws.Rows.{Together}
 use Rattle.candidates.proofs.rows.block_zeros.Given as goal
 
 abbrev pub invariant-loop-j : goal.invariant-loop-j

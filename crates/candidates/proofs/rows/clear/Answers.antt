@@ -1,7 +1,5 @@
 -- Each turn stores one zero.
-use Prim.Native.Nat.{◌-◌}
-use lib.ListN.{length}
-use Rattle.candidates.proofs.Laws.Rows.{Cleared, cleared_start, cleared_length, cleared_next, cleared_end}
+use Rattle.candidates.proofs.Laws.Rows.{cleared_start, cleared_length, cleared_next, cleared_end}
 use native.Mathlib.Omega.{arith}
 use Rattle.candidates.proofs.rows.clear.Goals as goal
 

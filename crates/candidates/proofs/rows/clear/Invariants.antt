@@ -1,8 +1,7 @@
 -- Each turn stores one zero.
 use Prim.Native.Nat.{◌-◌}
 use lib.ListN.{length}
-use Rattle.candidates.proofs.Laws.Rows.{Cleared, cleared_start, cleared_length, cleared_next, cleared_end}
-use native.Mathlib.Omega.{arith}
+use Rattle.candidates.proofs.Laws.Rows.{Cleared}
 use Rattle.candidates.proofs.rows.clear.Given as goal
 
 abbrev pub invariant-loop-i : goal.invariant-loop-i

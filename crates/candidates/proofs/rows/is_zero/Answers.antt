@@ -1,8 +1,6 @@
 -- What is left behind the rows passed is put together one by one.
 use mathlib.Core.Path.{refl, ◌∙◌}
-use Prim.Native.Nat.{◌-◌}
-use lib.ListN.{length}
-use Rattle.candidates.proofs.Laws.Rows.{Together, together_start, together_next, together_end}
+use Rattle.candidates.proofs.Laws.Rows.{together_start, together_next, together_end}
 use Rattle.candidates.proofs.rows.is_zero.Goals as goal
 
 pub loop-i-init : goal.loop-i-init

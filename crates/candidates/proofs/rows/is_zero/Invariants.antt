@@ -1,8 +1,7 @@
 -- What is left behind the rows passed is put together one by one.
-use mathlib.Core.Path.{refl, ◌∙◌}
 use Prim.Native.Nat.{◌-◌}
 use lib.ListN.{length}
-use Rattle.candidates.proofs.Laws.Rows.{Together, together_start, together_next, together_end}
+use Rattle.candidates.proofs.Laws.Rows.{Together}
 use Rattle.candidates.proofs.rows.is_zero.Given as goal
 
 abbrev pub invariant-loop-i : goal.invariant-loop-i

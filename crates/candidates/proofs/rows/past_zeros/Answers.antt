@@ -1,10 +1,6 @@
 -- Every whole row passed was of zeros.
-use mathlib.Core.Path.{◌≡◌, refl, ◌∙◌}
-use Prim.Native.Nat.{◌≤◌, ◌-◌}
+use mathlib.Core.Path.{refl, ◌∙◌}
 use native.Mathlib.Omega.{arith}
-use lib.ListN.{length, drop}
-use borrow.Author.Tests.{not-false}
-use Rattle.candidates.specs.Rows.{is_zero}
 use Rattle.candidates.proofs.rows.past_zeros.Goals as goal
 
 pub loop-i-init : goal.loop-i-init

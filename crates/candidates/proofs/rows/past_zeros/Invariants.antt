@@ -1,9 +1,7 @@
 -- Every whole row passed was of zeros.
-use mathlib.Core.Path.{◌≡◌, refl, ◌∙◌}
+use mathlib.Core.Path.{◌≡◌}
 use Prim.Native.Nat.{◌≤◌, ◌-◌}
-use native.Mathlib.Omega.{arith}
 use lib.ListN.{length, drop}
-use borrow.Author.Tests.{not-false}
 use Rattle.candidates.specs.Rows.{is_zero}
 use Rattle.candidates.proofs.rows.past_zeros.Given as goal
 

@@ -2,8 +2,7 @@
 -- what was read of the record, and that it lies in the run
 use native.Mathlib.Omega.{arith}
 use Rattle.held.specs.Held.{held_request}
-use Rattle.held.specs.Lying.{Lies}
-use Rattle.policy.specs.Reading.{record_rules, Knows}
+use Rattle.policy.specs.Reading.{record_rules}
 use Rattle.decide.specs.Operations.{refuses}
 use Rattle.decide.proofs.Laws.Operations.{answers_held, answers_refused, knows_lies, record_decided}
 use Rattle.decide.proofs.operations.decide_asked.Goals as goal

@@ -6,11 +6,10 @@ use Rattle.refine.proofs.Laws.Held.{listable, listed, feedable, fed_allowed, fed
 use Rattle.refine.proofs.operations.feed_request.Goals as goal
 
 pub decide_policy-j-requires : goal.decide_policy-j-requires
-decide_policy-j-requires c =
-    (
-      listable c.requires.0.held_sound refl,
-      record { thing = c.requires.1.request; lies = c.requires.1.lies },
-    )
+decide_policy-j-requires c = (
+  listable c.requires.0.held_sound refl,
+  record { thing = c.requires.1.request; lies = c.requires.1.lies },
+)
 
 pub feed_room-requires : goal.feed_room-requires
 feed_room-requires c =

@@ -1,7 +1,7 @@
 -- The room is refused; no Allow statement is left; or the refined policy is handed out.
-use mathlib.Core.Path.{refl, sym, ◌∙◌}
+use mathlib.Core.Path.{sym, ◌∙◌}
 use native.Mathlib.Omega.{arith}
-use borrow.Author.Tests.{not-true, not-false}
+use borrow.Author.Tests.{not-true}
 use Rattle.writing.proofs.Laws.Showing.{shows_none}
 use Rattle.refine.specs.Sound.{no_content, no_allow, finishes}
 use Rattle.refine.proofs.Laws.Keepable.{policy_writ, values_enough}

@@ -13,8 +13,7 @@ returns-then-other-ne-ROOM c =
     (ne_eqb (length c.args.other.now) room_numbers c.if-other-ne-ROOM.true)
 
 pub join_soon-requires : goal.join_soon-requires
-join_soon-requires c =
-    (
-      eq-eqb (length c.args.room.now) room_numbers c.if-room-ne-ROOM.false,
-      eq-eqb (length c.args.other.now) room_numbers c.if-other-ne-ROOM.false,
-    )
+join_soon-requires c = (
+  eq-eqb (length c.args.room.now) room_numbers c.if-room-ne-ROOM.false,
+  eq-eqb (length c.args.other.now) room_numbers c.if-other-ne-ROOM.false,
+)

@@ -1,8 +1,7 @@
 -- One of the rooms is refused; or they are joined.
 use mathlib.Core.Path.{refl, sym, ◌∙◌}
-use borrow.Author.Tests.{not-true, not-false}
 use Rattle.rooms.specs.Rooms.{slots}
-use Rattle.refine.specs.Sound.{no_content, no_other_content, joins}
+use Rattle.refine.specs.Sound.{no_content, no_other_content}
 use Rattle.refine.proofs.Laws.Held.{listable, listed, roomy, meetable, rooms_joined}
 use Rattle.refine.proofs.operations.join_held.Goals as goal
 

@@ -1,7 +1,6 @@
 -- Each turn passes one empty row.
-use native.Mathlib.Omega.{arith}
 use Prim.Native.Nat.{◌-◌}
-use Rattle.refined.proofs.Laws.KeepingTests.{Seeking, seeking_start, seeking_next, seeking_found, seeking_none}
+use Rattle.refined.proofs.Laws.KeepingTests.{Seeking}
 use Rattle.refined.proofs.finishing.has_some.Given as goal
 
 abbrev pub invariant-loop-i : goal.invariant-loop-i

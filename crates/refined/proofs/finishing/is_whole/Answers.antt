@@ -1,6 +1,5 @@
 -- Each of the three tests is of the lists as they lie one behind the other.
 use native.Mathlib.Omega.{arith}
-use borrow.Author.Tests.{not-true, not-false}
 use Rattle.held.proofs.Laws.Parts.{statement_lying, actions_values, resources_values, rows_lie}
 use Rattle.refined.proofs.Laws.KeepingStatements.{actions_enough, resources_enough, rows_ranged}
 use Rattle.refined.proofs.Laws.KeepingWhole.{whole_first, whole_second, whole_third}

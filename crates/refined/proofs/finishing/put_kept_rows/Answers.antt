@@ -1,15 +1,13 @@
 -- Each turn puts one row behind those before it.
 use mathlib.Core.Path.{refl}
-use Prim.Native.Nat.{◌+◌, ◌-◌}
 use native.Mathlib.Omega.{arith}
-use Rattle.held.specs.Held.{held_row}
 use Rattle.held.proofs.Laws.Runs.{lies_inside}
 use Rattle.held.proofs.Laws.Parts.{row_inside, row_operator}
 use Rattle.writing.specs.Bytes.{rows_from}
-use Rattle.writing.proofs.Laws.Telling.{Tellings, telling_start, telling_next, telling_end}
+use Rattle.writing.proofs.Laws.Telling.{telling_start, telling_next, telling_end}
 use Rattle.refined.specs.Finishing.{kept_rows}
 use Rattle.refined.proofs.Laws.KeepingLists.{turn_lying}
-use Rattle.refined.proofs.Laws.KeepingRows.{tell_rows, RowsReady, rows_told, rows_turn, row_ready, row_few}
+use Rattle.refined.proofs.Laws.KeepingRows.{rows_told, rows_turn, row_ready, row_few}
 use Rattle.refined.proofs.Laws.KeepingRows.{kept_row_piece}
 use Rattle.refined.proofs.finishing.put_kept_rows.Goals as goal
 

@@ -1,5 +1,4 @@
 -- A statement that is not left is passed over.
-use borrow.Author.Tests.{not-true, not-false}
 use Rattle.writing.specs.Bytes.{statement_bytes}
 use Rattle.refined.proofs.Laws.KeepingLists.{reach_none, reach_one}
 use Rattle.refined.proofs.Laws.KeepingWhole.{left_none, left_one}

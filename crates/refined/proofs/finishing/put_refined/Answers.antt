@@ -1,18 +1,16 @@
 -- Each turn passes one statement and its rows, and puts it behind those before it where it is left.
 use mathlib.Core.Path.{refl, ◌∙◌}
-use Prim.Native.Nat.{◌-◌}
 use native.Mathlib.Omega.{arith}
-use Rattle.held.specs.Held.{held_statement}
 use Rattle.held.proofs.Laws.Runs.{lies_inside}
 use Rattle.writing.specs.Bytes.{listed}
 use Rattle.writing.proofs.Laws.Showing.{adds_as, adds_then}
-use Rattle.writing.proofs.Laws.Telling.{Tellings, telling_start, telling_next, telling_end, list_told}
+use Rattle.writing.proofs.Laws.Telling.{telling_start, telling_next, telling_end, list_told}
 use Rattle.writing.proofs.Laws.Lying.{policy_lies}
 use Rattle.writing.proofs.Laws.BytesPolicy.{policy_bytes_lem}
 use Rattle.refined.specs.Finishing.{refined_policy}
 use Rattle.refined.proofs.Laws.KeepingLists.{turn_lying}
 use Rattle.refined.proofs.Laws.KeepingTests.{looking_start, looking_next}
-use Rattle.refined.proofs.Laws.KeepingPolicy.{tell_left, PolicyReady, Counts, policy_told, policy_turn}
+use Rattle.refined.proofs.Laws.KeepingPolicy.{policy_told, policy_turn}
 use Rattle.refined.proofs.Laws.KeepingPolicy.{policy_count, left_enough, left_writ, left_behind, left_far}
 use Rattle.refined.proofs.Laws.KeepingPolicy.{left_piece, counted_ready}
 use Rattle.refined.proofs.finishing.put_refined.Goals as goal
@@ -48,17 +46,16 @@ overflow_add-i c =
     omega (arith, c.loop-i-test.true, c.shared_slice_known-3-1.given 0)
 
 pub loop-i-preserved : goal.loop-i-preserved
-loop-i-preserved c =
-    (
-      λ xs k l u. telling_next (c.loop-i.invariant.0 xs k l u) c.loop-i-test.true _ _ _ _
-          (λ x ys m v. left_piece v (c.statement-q.ensures x m).many (c.loop-i.invariant.0 xs k l u)
-          (c.statement-q.ensures x m).past
-          (c.put_next_left-r.ensures
-          (record { thing = x; lies = m; enough = left_enough v; writ = left_writ v }))),
-      λ xs k l. looking_next (c.loop-i.invariant.1 xs k l) c.loop-i-test.true _ _
-          (λ x m. (c.statement-q.ensures x m).past)
-          (λ x ys m. refl) (λ x ys m. policy_count x ys (c.statement-q.ensures x m).many),
-    )
+loop-i-preserved c = (
+  λ xs k l u. telling_next (c.loop-i.invariant.0 xs k l u) c.loop-i-test.true _ _ _ _
+      (λ x ys m v. left_piece v (c.statement-q.ensures x m).many (c.loop-i.invariant.0 xs k l u)
+      (c.statement-q.ensures x m).past
+      (c.put_next_left-r.ensures
+      (record { thing = x; lies = m; enough = left_enough v; writ = left_writ v }))),
+  λ xs k l. looking_next (c.loop-i.invariant.1 xs k l) c.loop-i-test.true _ _
+      (λ x m. (c.statement-q.ensures x m).past)
+      (λ x ys m. refl) (λ x ys m. policy_count x ys (c.statement-q.ensures x m).many),
+)
 
 pub shape_of-out : goal.shape_of-out
 shape_of-out c =

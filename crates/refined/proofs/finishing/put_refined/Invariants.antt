@@ -1,20 +1,8 @@
 -- Each turn passes one statement and its rows, and puts it behind those before it where it is left.
-use mathlib.Core.Path.{refl, ◌∙◌}
 use Prim.Native.Nat.{◌-◌}
-use native.Mathlib.Omega.{arith}
 use Rattle.held.specs.Held.{held_statement}
-use Rattle.held.proofs.Laws.Runs.{lies_inside}
-use Rattle.writing.specs.Bytes.{listed}
-use Rattle.writing.proofs.Laws.Showing.{adds_as, adds_then}
-use Rattle.writing.proofs.Laws.Telling.{Tellings, telling_start, telling_next, telling_end, list_told}
-use Rattle.writing.proofs.Laws.Lying.{policy_lies}
-use Rattle.writing.proofs.Laws.BytesPolicy.{policy_bytes_lem}
-use Rattle.refined.specs.Finishing.{refined_policy}
-use Rattle.refined.proofs.Laws.KeepingLists.{turn_lying}
-use Rattle.refined.proofs.Laws.KeepingTests.{looking_start, looking_next}
-use Rattle.refined.proofs.Laws.KeepingPolicy.{tell_left, PolicyReady, Counts, policy_told, policy_turn}
-use Rattle.refined.proofs.Laws.KeepingPolicy.{policy_count, left_enough, left_writ, left_behind, left_far}
-use Rattle.refined.proofs.Laws.KeepingPolicy.{left_piece, counted_ready}
+use Rattle.writing.proofs.Laws.Telling.{Tellings}
+use Rattle.refined.proofs.Laws.KeepingPolicy.{tell_left, PolicyReady, Counts}
 use Rattle.refined.proofs.finishing.put_refined.Given as goal
 
 abbrev pub invariant-loop-i : goal.invariant-loop-i

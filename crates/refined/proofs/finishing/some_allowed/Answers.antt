@@ -1,16 +1,14 @@
 -- Each turn passes one statement that is no Allow, or is not written.
 use mathlib.Core.Path.{refl}
-use Prim.Native.Nat.{◌-◌}
 use native.Mathlib.Omega.{arith}
-use Rattle.held.specs.Held.{held_statement, any_of}
+use Rattle.held.specs.Held.{any_of}
 use Rattle.held.proofs.Laws.Runs.{lies_inside}
 use Rattle.writing.proofs.Laws.Lying.{policy_lies}
 use Rattle.refined.specs.Finishing.{refined_policy}
-use Rattle.refined.specs.Keeping.{policy_values}
-use Rattle.refined.proofs.Laws.KeepingTests.{Lookings, looking_start, list_looked, looking_lying, sight}
+use Rattle.refined.proofs.Laws.KeepingTests.{looking_start, list_looked, looking_lying, sight}
 use Rattle.refined.proofs.Laws.KeepingTests.{looking_decided, looking_next, looking_end}
 use Rattle.refined.proofs.Laws.KeepingStatements.{statement_many}
-use Rattle.refined.proofs.Laws.KeepingPolicy.{allow_test, policy_count, allow_here, allow_on}
+use Rattle.refined.proofs.Laws.KeepingPolicy.{policy_count, allow_here, allow_on}
 use Rattle.refined.proofs.finishing.some_allowed.Goals as goal
 
 pub bounds-run-0 : goal.bounds-run-0

@@ -1,7 +1,6 @@
 -- Each turn stores one byte.
-use Prim.Native.Nat.{◌-◌}
 use native.Mathlib.Omega.{arith}
-use Rattle.writing.proofs.Laws.Copying.{Copied, copied_start, copied_next, copied_length, copied_end}
+use Rattle.writing.proofs.Laws.Copying.{copied_start, copied_next, copied_length, copied_end}
 use Rattle.restate.proofs.operations.copy.Goals as goal
 
 pub loop-i-init : goal.loop-i-init

@@ -1,5 +1,4 @@
 -- By the effect's number, where the statement holds.
-use borrow.Author.Tests.{not-true, not-false}
 use Rattle.held.proofs.Laws.Parts.{statement_inside, statement_effect}
 use Rattle.rooms.proofs.Laws.ListingStatement.{denies_not, denies_by}
 use Rattle.rooms.proofs.listing.is_denying.Goals as goal

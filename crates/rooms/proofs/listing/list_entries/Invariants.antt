@@ -1,11 +1,6 @@
 -- Each turn notes one entry behind those before it; whichever entries lie at the place are the ones noted.
-use mathlib.Core.Path.{refl}
 use Prim.Native.Nat.{◌-◌}
-use native.Mathlib.Omega.{arith}
-use Rattle.held.specs.Held.{held_value}
-use Rattle.held.proofs.Laws.Runs.{lies_first, lies_inside, lies_next}
-use Rattle.rooms.proofs.Laws.ListingWalk.{list_ending, walk_start, walk_end}
-use Rattle.rooms.proofs.Laws.ListingTurns.{EntriesWalks, entries_size, entry_lying, entry_noting, entry_next}
+use Rattle.rooms.proofs.Laws.ListingTurns.{EntriesWalks}
 use Rattle.rooms.proofs.listing.list_entries.Given as goal
 
 abbrev pub invariant-loop-i : goal.invariant-loop-i

@@ -1,7 +1,6 @@
 -- The parts are asked for the request where the statement holds, and else for nothing.
 use mathlib.Core.List.{[]}
 use native.Mathlib.Omega.{arith}
-use borrow.Author.Tests.{not-true, not-false}
 use Rattle.syntax.specs.Policy.{text}
 use Rattle.held.proofs.Laws.Parts.{request_action, request_resource, text_value}
 use Rattle.decision.specs.Decision.{nothing, found}
@@ -44,13 +43,12 @@ overflow_add-c c =
     )
 
 pub list_parts-requires-2 : goal.list_parts-requires-2
-list_parts-requires-2 c =
-    (
-      c.requires.0,
-      action_carried c.requires.1,
-      resource_carried c.requires.1 c.past_value-t.ensures,
-      contexts_asking c.requires.1 c.past_value-t.ensures c.past_value-c.ensures,
-    )
+list_parts-requires-2 c = (
+  c.requires.0,
+  action_carried c.requires.1,
+  resource_carried c.requires.1 c.past_value-t.ensures,
+  contexts_asking c.requires.1 c.past_value-t.ensures c.past_value-c.ensures,
+)
 
 pub returns : goal.returns
 returns c =

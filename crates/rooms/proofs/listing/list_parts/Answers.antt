@@ -16,24 +16,22 @@ behind_label-a-requires c =
     statement_lying (statement_lies c.requires.0)
 
 pub list_entries-b-requires : goal.list_entries-b-requires
-list_entries-b-requires c =
-    (
-      statement_effecting c.requires.0,
-      record { place = in_action; is = refl },
-      actions_listable c.requires.0 c.behind_label-a.ensures,
-      c.requires.1,
-    )
+list_entries-b-requires c = (
+  statement_effecting c.requires.0,
+  record { place = in_action; is = refl },
+  actions_listable c.requires.0 c.behind_label-a.ensures,
+  c.requires.1,
+)
 
 pub list_entries-c-requires : goal.list_entries-c-requires
-list_entries-c-requires c =
-    (
-      statement_effecting c.requires.0,
-      record { place = in_resource; is = refl },
-      resources_listable c.requires.0 c.behind_label-a.ensures
-          (actions_listed c.requires.0.thing c.requires.0.lies c.behind_label-a.ensures c.list_entries-b.ensures
-          c.requires.1.valued),
-      c.requires.2,
-    )
+list_entries-c-requires c = (
+  statement_effecting c.requires.0,
+  record { place = in_resource; is = refl },
+  resources_listable c.requires.0 c.behind_label-a.ensures
+      (actions_listed c.requires.0.thing c.requires.0.lies c.behind_label-a.ensures c.list_entries-b.ensures
+      c.requires.1.valued),
+  c.requires.2,
+)
 
 pub list_rows-requires : goal.list_rows-requires
 list_rows-requires c =

@@ -2,18 +2,14 @@
 -- whichever policy lies there
 use mathlib.Core.Path.{refl}
 use mathlib.Core.List.{[]}
-use Prim.Native.Nat.{◌-◌}
 use native.Mathlib.Omega.{arith}
-use Rattle.syntax.specs.Policy.{Policy}
-use Rattle.held.specs.Held.{held}
-use Rattle.held.specs.Lying.{Lies}
 use Rattle.held.proofs.Laws.RunsStatement.{policy_inside}
 use Rattle.decision.specs.Decision.{nothing}
 use Rattle.rooms.specs.Rooms.{statement_slots, slots, none}
 use Rattle.rooms.specs.Listing.{no_value, no_context}
 use Rattle.rooms.proofs.Laws.ListingWalk.{lists_charged}
 use Rattle.rooms.proofs.Laws.ListingStatement.{found_nothing, none_more}
-use Rattle.rooms.proofs.Laws.ListingTurns.{StatementsWalk, statements_start, statement_room, statement_next}
+use Rattle.rooms.proofs.Laws.ListingTurns.{statements_start, statement_room, statement_next}
 use Rattle.rooms.proofs.Laws.ListingTurns.{statements_end}
 use Rattle.rooms.proofs.Laws.ListingParts.{carried_none, asking_none}
 use Rattle.rooms.proofs.listing.list_policy.Goals as goal
@@ -29,14 +25,13 @@ pub loop-i-init : goal.loop-i-init
 loop-i-init c = λ x l. statements_start (λ y. none (slots y)) x _ _ _ l
 
 pub list_parts-g-requires : goal.list_parts-g-requires
-list_parts-g-requires c =
-    (
-      statement_room (λ y. none (slots y)) c.requires.thing (c.loop-i.invariant c.requires.thing c.requires.lies) c.loop-i-test.true
-          c.requires.room,
-      carried_none _,
-      carried_none _,
-      asking_none _,
-    )
+list_parts-g-requires c = (
+  statement_room (λ y. none (slots y)) c.requires.thing (c.loop-i.invariant c.requires.thing c.requires.lies) c.loop-i-test.true
+      c.requires.room,
+  carried_none _,
+  carried_none _,
+  asking_none _,
+)
 
 pub overflow_add-i : goal.overflow_add-i
 overflow_add-i c =

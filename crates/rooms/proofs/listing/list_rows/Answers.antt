@@ -1,6 +1,5 @@
 -- Each turn notes the entries of one row behind those before it.
 use mathlib.Core.Path.{refl}
-use Prim.Native.Nat.{◌-◌}
 use native.Mathlib.Omega.{arith}
 use Rattle.held.specs.Held.{held_row}
 use Rattle.held.proofs.Laws.Runs.{lies_first, lies_inside, lies_next}
@@ -9,7 +8,7 @@ use Rattle.decision.specs.Decision.{value_at}
 use Rattle.candidates.specs.Entries.{in_row}
 use Rattle.rooms.specs.Rooms.{row_slots, row_hits}
 use Rattle.rooms.proofs.Laws.ListingWalk.{list_ending, walk_start, walk_end}
-use Rattle.rooms.proofs.Laws.ListingTurns.{RowsWalks, rows_size, row_there, row_inside_there, row_noting}
+use Rattle.rooms.proofs.Laws.ListingTurns.{rows_size, row_there, row_inside_there, row_noting}
 use Rattle.rooms.proofs.Laws.ListingTurns.{row_next}
 use Rattle.rooms.proofs.listing.list_rows.Goals as goal
 

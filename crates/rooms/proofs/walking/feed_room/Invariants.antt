@@ -1,15 +1,12 @@
 -- Each turn charges one row; the others stay.
-use mathlib.Core.Path.{◌≡◌, sym, ◌∙◌}
+use mathlib.Core.Path.{◌≡◌}
 use mathlib.Core.Bool.{true}
 use mathlib.Core.List.{List}
-use Prim.Native.Nat.{ℕ, ◌+◌, ◌-◌}
-use native.Mathlib.Omega.{arith}
-use lib.ListN.{length}
+use Prim.Native.Nat.{◌-◌}
 use Rattle.decision.specs.Decision.{Found}
 use Rattle.rooms.specs.Rooms.{Slot, fits}
 use Rattle.rooms.specs.Walking.{Listed, Right}
-use Rattle.rooms.proofs.Laws.WalkingRows.{Feeding, feeding_start, feeding_now, feeding_right, feeding_fits}
-use Rattle.rooms.proofs.Laws.WalkingRows.{feeding_next, feeding_end, part_size}
+use Rattle.rooms.proofs.Laws.WalkingRows.{Feeding}
 use Rattle.rooms.proofs.walking.feed_room.Given as goal
 
 abbrev pub invariant-loop-d : goal.invariant-loop-d

@@ -1,11 +1,8 @@
 -- Nothing is charged, or the value that lies there.
-use mathlib.Core.Path.{◌≡◌, sym, ap, ◌∙◌, subst}
-use mathlib.Core.List.{List}
-use Prim.Native.Nat.{ℕ}
+use mathlib.Core.Path.{sym, ap, ◌∙◌}
 use Rattle.decision.specs.Decision.{Found}
 use Rattle.rooms.specs.Rooms.{row_fed}
 use Rattle.rooms.proofs.Laws.Walking.{valued_none, valued_some, right_value}
-use native.Mathlib.Omega.{arith}
 use Rattle.rooms.proofs.walking.feed_row.Goals as goal
 
 pub returns-then-v-eq0 : goal.returns-then-v-eq0

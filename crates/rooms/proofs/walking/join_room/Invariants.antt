@@ -1,15 +1,12 @@
 -- Each turn joins one row to the other room's.
-use mathlib.Core.Path.{◌≡◌, sym, ◌∙◌}
+use mathlib.Core.Path.{◌≡◌}
 use mathlib.Core.Bool.{true}
 use mathlib.Core.List.{List}
-use Prim.Native.Nat.{ℕ, ◌+◌, ◌-◌}
-use native.Mathlib.Omega.{arith}
-use lib.ListN.{length}
+use Prim.Native.Nat.{◌-◌}
 use Rattle.decision.specs.Decision.{Found}
 use Rattle.rooms.specs.Rooms.{Slot, fits}
 use Rattle.rooms.specs.Walking.{Listed}
-use Rattle.rooms.proofs.Laws.WalkingRows.{Meeting, meeting_start, meeting_now, meeting_fits, meeting_other}
-use Rattle.rooms.proofs.Laws.WalkingRows.{meeting_next, meeting_end, part_size}
+use Rattle.rooms.proofs.Laws.WalkingRows.{Meeting}
 use Rattle.rooms.proofs.walking.join_room.Given as goal
 
 abbrev pub invariant-loop-d : goal.invariant-loop-d

@@ -1,5 +1,4 @@
 -- By the number that the list has for the slot; an entry that has itself alone, and a Deny entry, have no more than a mark.
-use mathlib.Core.Path.{ap, ◌∙◌}
 use native.Mathlib.Omega.{arith}
 use Rattle.rooms.proofs.Laws.Handling.{as_bound, is_wild, wild_texted}
 use Rattle.rooms.proofs.Laws.HandlingRows.{row_numbers_lem, row_texts, number_of, text_of_lem, met_bound, met_wild}
