@@ -10,19 +10,19 @@ use Rattle.chars.proofs.strings.coded.Goals as goal
 pub returns-in-55296-to-56319 : goal.returns-in-55296-to-56319
 returns-in-55296-to-56319 c =
     escaped_text c.requires c.code-u.ensures
-    ∙ meaning_high _ _ (record { low = c.in-55296-to-56319.if-u-lt55296-own.false; high = omega arith }) ∙ c.pair.ensures
+    ∙ meaning_high _ _ (record { low = omega arith; high = omega arith }) ∙ c.pair.ensures
 
 pub returns-in-56320-to-57343 : goal.returns-in-56320-to-57343
 returns-in-56320-to-57343 c =
     escaped_text c.requires c.code-u.ensures
-    ∙ meaning_low _ _ (record { low = c.in-56320-to-57343.if-u-lt56320-own.false; high = omega arith })
+    ∙ meaning_low _ _ (record { low = omega arith; high = omega arith })
 
 pub returns-in_default : goal.returns-in_default
 unfolding text_of
 returns-in_default c =
-    escaped_text c.requires c.code-u.ensures ∙ meaning_apart _ _ (under c.in_default.if-u-lt55296-own.true)
+    escaped_text c.requires c.code-u.ensures ∙ meaning_apart _ _ (under (omega arith))
 
 pub returns-in_default-2 : goal.returns-in_default-2
 unfolding text_of
 returns-in_default-2 c =
-    escaped_text c.requires c.code-u.ensures ∙ meaning_apart _ _ (over c.in_default.if-u-lt57344-own.false)
+    escaped_text c.requires c.code-u.ensures ∙ meaning_apart _ _ (over (omega arith))

@@ -21,16 +21,16 @@ unfolding text_of
 returns-in-56320-to-57343 c =
     pair_code _ _ c.byte_at.ensures c.if-byte_at-ne92.false
     c.byte_at-2.ensures c.if-byte_at-ne117.false c.code-l.ensures
-    ∙ paired_low _ _ _ (record { low = c.in-56320-to-57343.if-l-lt56320-own.false; high = omega arith })
+    ∙ paired_low _ _ _ (record { low = omega arith; high = omega arith })
 
 pub returns-in_default : goal.returns-in_default
 returns-in_default c =
     pair_code _ _ c.byte_at.ensures c.if-byte_at-ne92.false
     c.byte_at-2.ensures c.if-byte_at-ne117.false c.code-l.ensures
-    ∙ paired_apart _ _ _ (under c.in_default.if-l-lt56320-own.true)
+    ∙ paired_apart _ _ _ (under (omega arith))
 
 pub returns-in_default-2 : goal.returns-in_default-2
 returns-in_default-2 c =
     pair_code _ _ c.byte_at.ensures c.if-byte_at-ne92.false
     c.byte_at-2.ensures c.if-byte_at-ne117.false c.code-l.ensures
-    ∙ paired_apart _ _ _ (over c.in_default.if-l-lt57344-own.false)
+    ∙ paired_apart _ _ _ (over (omega arith))
