@@ -10,7 +10,7 @@ use Rattle.candidates.specs.Rows.{text_characters, row}
 pub data Textual : Content → Type 0 where
   no_text : Textual empty
   whole_text : Textual (holds itself)
-  one_text_lem : {t : List ℕ} → length t ≤ text_characters → Textual (holds (single t))
+  single_text : {t : List ℕ} → length t ≤ text_characters → Textual (holds (single t))
   begun_text : {q : List ℕ} → length q ≤ text_characters → Textual (holds (under q))
 
 abbrev pub content_text : Content → List ℕ

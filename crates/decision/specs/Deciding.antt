@@ -8,7 +8,7 @@ use Rattle.syntax.specs.Policy.{Value, Context, Statement, Request}
 use Rattle.held.specs.Held.{held_context, any_of}
 use Rattle.decision.specs.Matching.{matches}
 use Rattle.held.specs.Lying.{Lies}
-use Rattle.decision.specs.Decision.{Why, missing, other-type, no-entry, Result, holds, fails}
+use Rattle.decision.specs.Decision.{Why, missing, other_type, no_entry, Result, holds, fails}
 use Rattle.decision.specs.Decision.{Found, nothing, found, Part, none, action, resource, row, rows_from}
 use Rattle.decision.specs.declared.deciding.Failing.{Failing}
 use Rattle.decision.specs.declared.deciding.Failing.TheVariants.{Nothing, Action, Resource, Row}
@@ -34,8 +34,8 @@ part_behind s r =
 
 abbrev pub why_number : Why → ℕ
 why_number missing = 1
-why_number other-type = 2
-why_number no-entry = 3
+why_number other_type = 2
+why_number no_entry = 3
 
 abbrev pub result_number : Result → ℕ
 result_number holds = 0

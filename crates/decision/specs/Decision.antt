@@ -44,7 +44,7 @@ meets NumericLessThanEquals (number n) (number m) = leb m n
 -- ---- rows
 
 pub data Why : Type 0 where
-  missing other-type no-entry : Why
+  missing other_type no_entry : Why
 
 pub data Result : Type 0 where
   holds : Result
@@ -63,8 +63,8 @@ abbrev pub result_with : Row → Found → Result
 result_with r nothing = fails missing
 result_with r (found v) =
     pick (typed r.operator v)
-    (pick (any_of (λ x. meets r.operator x v) r.entries) holds (fails no-entry))
-    (fails other-type)
+    (pick (any_of (λ x. meets r.operator x v) r.entries) holds (fails no_entry))
+    (fails other_type)
 
 unfoldable pub row_result : Row → List Context → Result
 row_result r cs = result_with r (value_at r.key cs)

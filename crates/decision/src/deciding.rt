@@ -15,6 +15,9 @@ use crate::matching;
 use held::{limits, places, runs};
 use syntax::forms;
 
+// The number of the effect Deny.
+const DENY: u32 = 2;
+
 // Denied or allowed by a statement, counted from 1; or denied by none and allowed by none.
 #[derive(Clone, Copy)]
 pub enum Decision {
@@ -297,7 +300,7 @@ pub fn decide(policy: &[u32], request: &[u32]) -> Decision
                 if !holds_behind(policy, p, request) {
                     break 'entries 0;
                 }
-                if policy[p] == 2 {
+                if policy[p] == DENY {
                     break 'statements i + 1;
                 }
                 break 'entries i + 1;

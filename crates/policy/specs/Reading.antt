@@ -4,7 +4,7 @@
 --   Says k s x         by the rules k the bytes s come to x: a refusal, or what was read
 --   Answers k h s run r   an answer tells what s comes to, and the run holds what was read as h holds it
 --   Foretells s r         a refusal that is told before a run is made is what the policy text s comes to
--- Differs from 01: nowhere.  Pinned by: `Says-some` and `says_unique` of Laws/Reading: bytes come to one outcome.
+-- Differs from 01: nowhere.  Pinned by: `says_some` and `says_unique` of Laws/Reading: bytes come to one outcome.
 use Rattle.std.specs.Prelude.{◌≡◌, List, ℕ, ◌+◌, ◌≤◌, ◌<◌, length, take}
 use Rattle.chars.specs.Base.{pick}
 use Rattle.text.specs.Json.{Json, levels}

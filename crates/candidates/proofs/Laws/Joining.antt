@@ -14,7 +14,7 @@ use Rattle.syntax.specs.Forms.{both, same}
 use Rattle.candidates.specs.Candidates.{Candidate, itself, single, under, up_to, Content, empty, holds, Kind, joined}
 use Rattle.candidates.specs.Beginnings.{shared}
 use Rattle.candidates.specs.Rows.{row_numbers, text_characters, padded, row, text_in}
-use Rattle.candidates.specs.Joining.{Textual, no_text, whole_text, one_text_lem, begun_text, content_text, Texted}
+use Rattle.candidates.specs.Joining.{Textual, no_text, whole_text, single_text, begun_text, content_text, Texted}
 use Rattle.candidates.proofs.Laws.Rows.{padded_length}
 use Rattle.candidates.proofs.Laws.FittingText.{part, part_is}
 
@@ -40,7 +40,7 @@ of_row : (c : Content) → Textual c → Standing c (row c)
 unfolding row padded
 of_row c no_text = record { size = refl; mark = refl; told = omega arith; text = refl }
 of_row c whole_text = record { size = refl; mark = refl; told = omega arith; text = refl }
-of_row c (one_text_lem {t} h) =
+of_row c (single_text {t} h) =
     record {
       size = padded_length (2 ∷ length t ∷ t) (omega (arith, h));
       mark = refl;

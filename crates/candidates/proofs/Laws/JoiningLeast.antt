@@ -12,7 +12,7 @@ use Rattle.candidates.specs.Beginnings.{longest_up_to, longest}
 use Rattle.candidates.specs.Kinds.{never}
 use Rattle.candidates.specs.Entries.{Place, before, legal_text, legal_beginning, wild_kind}
 use Rattle.candidates.specs.Rows.{text_characters, row}
-use Rattle.candidates.specs.Joining.{Textual, whole_text, one_text_lem, begun_text, Texted}
+use Rattle.candidates.specs.Joining.{Textual, whole_text, single_text, begun_text, Texted}
 use Rattle.candidates.proofs.Laws.FittingWild.{by_tests, no_wildcard, final_star, kind_is}
 
 abbrev pub Short : Candidate → Type 0
@@ -38,10 +38,10 @@ module _ (v : List ℕ) (h : length v ≤ text_characters) where
         by : (a b : Bool) → Short ((by_tests p ys a b).least (text v))
         by true b = longest_short never (length v)
         by false true =
-            picked (legal_text p v) (single v) (longest (legal_beginning p (before ys)) v) (one_text_lem h)
+            picked (legal_text p v) (single v) (longest (legal_beginning p (before ys)) v) (single_text h)
             (longest_short (legal_beginning p (before ys)) (length v))
         by false false =
-            picked (legal_text p v) (single v) (longest never v) (one_text_lem h) (longest_short never (length v))
+            picked (legal_text p v) (single v) (longest never v) (single_text h) (longest_short never (length v))
 
     pub least_texted : {xs : List ℕ} → xs ≡ row (holds ((wild_kind p ys).least (text v))) → Texted xs
     least_texted e = record { content = holds ((wild_kind p ys).least (text v)); textual = least_short; is = e }

@@ -17,7 +17,7 @@ use Rattle.candidates.specs.Kinds.{never, text_of, one_text}
 use Rattle.candidates.specs.Entries.{Place, before, legal_beginning, wild_kind}
 use Rattle.candidates.specs.Places.{wild_number}
 use Rattle.candidates.specs.Rows.{padded, row}
-use Rattle.candidates.specs.Joining.{Textual, no_text, whole_text, one_text_lem, begun_text, content_text}
+use Rattle.candidates.specs.Joining.{Textual, no_text, whole_text, single_text, begun_text, content_text}
 use Rattle.candidates.proofs.Laws.Encoding.{Sized, no_row, whole_row, text_row_lem, begun_row, row_injective}
 use Rattle.candidates.proofs.Laws.FittingWild.{by_tests, number, no_wildcard, final_star, kind_is, number_is}
 use Rattle.candidates.proofs.Laws.ChargingLeast.{longest_never, mark_row}
@@ -26,7 +26,7 @@ use Rattle.candidates.proofs.Laws.Joining.{mark_of, Standing, joined_nothing, on
 sized : {c : Content} → Textual c → Sized c
 sized no_text = no_row
 sized whole_text = whole_row
-sized (one_text_lem h) = text_row_lem h
+sized (single_text h) = text_row_lem h
 sized (begun_text h) = begun_row h
 
 -- ---- nothing in one of them
@@ -34,7 +34,7 @@ sized (begun_text h) = begun_row h
 marked : {c : Content} → Textual c → mark_of c ≡ 0 → c ≡ empty
 marked no_text e = refl
 marked whole_text e = absurd (omega (arith, e))
-marked (one_text_lem h) e = absurd (omega (arith, e))
+marked (single_text h) e = absurd (omega (arith, e))
 marked (begun_text h) e = absurd (omega (arith, e))
 
 module _ (p : Place) (ys : List ℕ) where
@@ -61,7 +61,7 @@ pub record Held (c : Content) : Type 0 where
 pub held : {c : Content} {xs : List ℕ} → Textual c → Standing c xs → (get_or xs 0 0 ≡ 0 → ⊥) → Held c
 held no_text s n = absurd (n s.mark)
 held whole_text s n = record { candidate = itself; is = refl }
-held (one_text_lem {t} h) s n = record { candidate = single t; is = refl }
+held (single_text {t} h) s n = record { candidate = single t; is = refl }
 held (begun_text {q} h) s n = record { candidate = under q; is = refl }
 
 record Single (c : Content) : Type 0 where
@@ -71,7 +71,7 @@ record Single (c : Content) : Type 0 where
 two : {c : Content} → Textual c → mark_of c ≡ 2 → Single c
 two no_text e = absurd (omega (arith, e))
 two whole_text e = absurd (omega (arith, e))
-two (one_text_lem {t} h) e = record { text = t; is = refl }
+two (single_text {t} h) e = record { text = t; is = refl }
 two (begun_text h) e = absurd (omega (arith, e))
 
 -- the same text twice

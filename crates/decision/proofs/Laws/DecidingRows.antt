@@ -12,7 +12,7 @@ use Rattle.held.specs.Held.{held_value, held_context}
 use Rattle.held.specs.Held.{type_number, any_of}
 use Rattle.held.specs.Lying.{Lies, Lying}
 use Rattle.held.proofs.Laws.Parts.{BehindLabel, value_lies}
-use Rattle.decision.specs.Decision.{Result, holds, fails, missing, no-entry, other-type, Found, nothing, found}
+use Rattle.decision.specs.Decision.{Result, holds, fails, missing, no_entry, other_type, Found, nothing, found}
 use Rattle.decision.specs.Decision.{typed, meets, result_with, row_result, Part, behind_row, rows_from}
 use Rattle.decision.specs.Deciding.{FindsAt, Finds}
 use Rattle.decision.specs.Deciding.{result_number, failing_of}
@@ -65,21 +65,21 @@ module _ (x : Row) (cs : List Context) (f : Found) (e : row_result x cs ≡ resu
     abbrev some : Bool
     some = any_of (λ y. meets x.operator y v) x.entries
 
-    told : row_result x cs ≡ pick (typed x.operator v) (pick some holds (fails no-entry)) (fails other-type)
+    told : row_result x cs ≡ pick (typed x.operator v) (pick some holds (fails no_entry)) (fails other_type)
     told = e ∙ ap (result_with x) is
 
     pub result_other : typed x.operator v ≡ false → 2 ≡ result_number (row_result x cs)
     result_other t =
         ap result_number
-        (sym (told ∙ ap (λ (b : Bool). pick b (pick some holds (fails no-entry)) (fails other-type)) t))
+        (sym (told ∙ ap (λ (b : Bool). pick b (pick some holds (fails no_entry)) (fails other_type)) t))
 
     pub result_by :
         (b : Bool) → typed x.operator v ≡ true → some ≡ b
-        → result_number (pick b holds (fails no-entry)) ≡ result_number (row_result x cs)
+        → result_number (pick b holds (fails no_entry)) ≡ result_number (row_result x cs)
     result_by b t u =
         ap result_number
-        (sym (told ∙ ap (λ (c : Bool). pick c (pick some holds (fails no-entry)) (fails other-type)) t
-        ∙ ap (λ (c : Bool). pick c holds (fails no-entry)) u))
+        (sym (told ∙ ap (λ (c : Bool). pick c (pick some holds (fails no_entry)) (fails other_type)) t
+        ∙ ap (λ (c : Bool). pick c holds (fails no_entry)) u))
 
 -- ---- the first that does not hold
 
@@ -92,8 +92,8 @@ module _ (k : ℕ) (rest : Part) where
   row_goes_on : (x : Result) {why : ℕ} → why ≡ result_number x → why ≡ 0 → behind_row k x rest ≡ rest
   row_goes_on holds e h = refl
   row_goes_on (fails missing) e h = absurd (omega arith)
-  row_goes_on (fails other-type) e h = absurd (omega arith)
-  row_goes_on (fails no-entry) e h = absurd (omega arith)
+  row_goes_on (fails other_type) e h = absurd (omega arith)
+  row_goes_on (fails no_entry) e h = absurd (omega arith)
 
 module _ (k : ℕ) (x : Row) (xs : List Row) (cs : List Context) {why : ℕ} (e : why ≡ result_number (row_result x cs)) where
   pub row_fails : (why ≡ 0 → ⊥) → F.Row k why ≡ failing_of (rows_from k (x ∷ xs) cs)

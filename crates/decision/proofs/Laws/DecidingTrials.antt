@@ -8,7 +8,7 @@ use Rattle.syntax.specs.Policy.{NumericLessThanEquals, Value, text, number, Row,
 use Rattle.syntax.specs.Forms.{both, same, lower, same_key}
 use Rattle.decision.specs.Matching.{some_ending, first, matches}
 use Rattle.held.specs.Held.{any_of}
-use Rattle.decision.specs.Decision.{missing, other-type, no-entry, Part, none, action, resource, row}
+use Rattle.decision.specs.Decision.{missing, other_type, no_entry, Part, none, action, resource, row}
 use Rattle.decision.specs.Decision.{value_at, row_result, rows_from, part_of, first_of, decide}
 use Rattle.decision.specs.Deciding.{why_number}
 use Rattle.decision.specs.declared.deciding.Decision.{Decision}
@@ -83,17 +83,17 @@ trials =
     (fails_at (with_rows (under StringLike (107 ∷ []) (text (star ∷ []) ∷ []) ∷ [])) asked (row 1 missing)) ∷
     (fails_at (with_rows (under StringLike (75 ∷ 107 ∷ []) (text (star ∷ []) ∷ []) ∷ [])) asked none) ∷
     -- a value of another type
-    (fails_at (with_rows (under StringLike (110 ∷ 110 ∷ []) (text (star ∷ []) ∷ []) ∷ [])) asked (row 1 other-type)) ∷
+    (fails_at (with_rows (under StringLike (110 ∷ 110 ∷ []) (text (star ∷ []) ∷ []) ∷ [])) asked (row 1 other_type)) ∷
     (fails_at (with_rows (under NumericLessThanEquals (107 ∷ 107 ∷ []) (number 9 ∷ []) ∷ [])) asked
-    (row 1 other-type)) ∷
+    (row 1 other_type)) ∷
     -- one entry is enough; StringEquals wants the whole text
     (fails_at (with_rows (under StringEquals (107 ∷ 107 ∷ []) (text (99 ∷ []) ∷ text (99 ∷ 100 ∷ []) ∷ []) ∷ [])) asked
     none) ∷
-    (fails_at (with_rows (under StringEquals (107 ∷ 107 ∷ []) (text (99 ∷ []) ∷ []) ∷ [])) asked (row 1 no-entry)) ∷
+    (fails_at (with_rows (under StringEquals (107 ∷ 107 ∷ []) (text (99 ∷ []) ∷ []) ∷ [])) asked (row 1 no_entry)) ∷
     -- a value not above the entry: the same, one below, one above
     (fails_at (with_rows (under NumericLessThanEquals (110 ∷ 110 ∷ []) (number 5000000000 ∷ []) ∷ [])) asked none) ∷
     (fails_at (with_rows (under NumericLessThanEquals (110 ∷ 110 ∷ []) (number 4999999999 ∷ []) ∷ [])) asked
-    (row 1 no-entry)) ∷
+    (row 1 no_entry)) ∷
     (fails_at (with_rows (under NumericLessThanEquals (110 ∷ 110 ∷ []) (number 5000000001 ∷ []) ∷ [])) asked none) ∷
     -- every row must hold, and the first that does not is told
     (fails_at

@@ -9,7 +9,7 @@ use Rattle.syntax.specs.Forms.{both, either}
 use Rattle.held.specs.Held.{any_of}
 use Rattle.decision.specs.Matching.{matches}
 use Rattle.decision.specs.Decision.{typed, meets, Found, nothing, found, value_at, Result, holds, fails, result_with}
-use Rattle.decision.specs.Decision.{other-type, no-entry, action, resource}
+use Rattle.decision.specs.Decision.{other_type, no_entry, action, resource}
 use Rattle.decision.specs.Decision.{row_result, Part, behind_row, rows_from, part_of, is_none, same_effect, first_of}
 use Rattle.decision.specs.Decision.{by_deny, decide}
 use Rattle.demands.specs.Narrowing.{is_allowed}
@@ -32,7 +32,7 @@ result_held : (r : Row) (f : Found) → is_held (result_with r f) ≡ held_by r 
 result_held r nothing = refl
 result_held r (found v) = by (typed r.operator v) (any_of (λ x. meets r.operator x v) r.entries)
   where
-    by : (a b : Bool) → is_held (pick a (pick b holds (fails no-entry)) (fails other-type)) ≡ both a b
+    by : (a b : Bool) → is_held (pick a (pick b holds (fails no_entry)) (fails other_type)) ≡ both a b
     by true true = refl
     by true false = refl
     by false b = refl

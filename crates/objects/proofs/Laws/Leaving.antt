@@ -28,7 +28,7 @@ use Rattle.parts.specs.Slots.{words_of, word_at}
 use Rattle.parts.specs.Unfit.{turn_of, UnfitAs, unknown, sid, effect, action, resource, condition, UnfitFirst, Bad}
 use Rattle.parts.specs.declared.members.Layout.TheVariants as L
 use Rattle.parts.proofs.Laws.Slots.{which_unknown, which_is}
-use Rattle.parts.proofs.Laws.Formed.{then_wrong as wrong-then}
+use Rattle.parts.proofs.Laws.Formed.{then_wrong as wrong_then}
 use Rattle.straight.specs.Marks.{Named, Parted}
 use Rattle.straight.proofs.Laws.Reads.{object_some, object_next, member_is}
 use Rattle.straight.proofs.Laws.Leading.{opened_inner, member_leads}
@@ -109,23 +109,23 @@ module _ (ms : Members) where
 
   sid_wrong : sids ≡ wrong → statement_in ms ≡ wrong
   unfolding statement_in
-  sid_wrong e = wrong-then _ e
+  sid_wrong e = wrong_then _ e
 
   effect_wrong : required effect_of (slot effect_word ms) ≡ wrong → statement_in ms ≡ wrong
   unfolding statement_in
-  effect_wrong e = then_wrong sids _ (λ i. wrong-then _ e)
+  effect_wrong e = then_wrong sids _ (λ i. wrong_then _ e)
 
   action_wrong : required (one_or_more action_of) (slot action_word ms) ≡ wrong → statement_in ms ≡ wrong
   unfolding statement_in
   action_wrong e =
-      then_wrong sids _ (λ i. then_wrong (required effect_of (slot effect_word ms)) _ (λ f. wrong-then _ e))
+      then_wrong sids _ (λ i. then_wrong (required effect_of (slot effect_word ms)) _ (λ f. wrong_then _ e))
 
   resource_wrong : required (one_or_more resource_of) (slot resource_word ms) ≡ wrong → statement_in ms ≡ wrong
   unfolding statement_in
   resource_wrong e =
       then_wrong sids _ (λ i.
       then_wrong (required effect_of (slot effect_word ms)) _ (λ f.
-      then_wrong (required (one_or_more action_of) (slot action_word ms)) _ (λ xs. wrong-then _ e)))
+      then_wrong (required (one_or_more action_of) (slot action_word ms)) _ (λ xs. wrong_then _ e)))
 
   condition_wrong : optional [] condition_of (slot condition_word ms) ≡ wrong → statement_in ms ≡ wrong
   unfolding statement_in
@@ -133,7 +133,7 @@ module _ (ms : Members) where
       then_wrong sids _ (λ i.
       then_wrong (required effect_of (slot effect_word ms)) _ (λ f.
       then_wrong (required (one_or_more action_of) (slot action_word ms)) _ (λ xs.
-      then_wrong (required (one_or_more resource_of) (slot resource_word ms)) _ (λ rs. wrong-then _ e))))
+      then_wrong (required (one_or_more resource_of) (slot resource_word ms)) _ (λ rs. wrong_then _ e))))
 
 required_wrong : {A : Type 0} {t : Json} {x : Slot} (f : Json → Reading A) → Wants t x → f t ≡ wrong
     → required f x ≡ wrong

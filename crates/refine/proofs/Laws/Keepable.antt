@@ -23,7 +23,7 @@ use Rattle.candidates.specs.Kinds.{bounds}
 use Rattle.candidates.specs.Entries.{Place, in_action, in_resource, in_row, is_plain, is_legal, has_form, legal_beginning}
 use Rattle.candidates.specs.Entries.{wild_kind, before}
 use Rattle.candidates.specs.Rows.{row_numbers, text_characters, content_of, is_row}
-use Rattle.candidates.specs.Joining.{Textual, no_text, whole_text, one_text_lem, begun_text, Numeric, no_number, one_number}
+use Rattle.candidates.specs.Joining.{Textual, no_text, whole_text, single_text, begun_text, Numeric, no_number, one_number}
 use Rattle.rooms.specs.Rooms.{Slot, slot_kind, slots_at, row_slots, statement_slots, slots, row_fits, fits}
 use Rattle.refined.specs.Keeping.{Writable, Writ, WritRows, no_rows, a_row, row_values, statement_values, WritPolicy}
 use Rattle.refined.specs.Keeping.{policy_values}
@@ -72,7 +72,7 @@ text_writable :
     (p : Place) (ys : List ℕ) (c : Content) → Textual c → is_content (wild_kind p ys) c ≡ true → Writable (text ys) c
 text_writable p ys c no_text e = K.nothing
 text_writable p ys c whole_text e = K.whole
-text_writable p ys c (one_text_lem h) e = K.one h
+text_writable p ys c (single_text h) e = K.one h
 text_writable p ys c (begun_text {q} h) e = K.begun (under_few p ys q e)
 
 number_writable : (n : ℕ) (c : Content) → n ≤ greatest → Numeric c → is_content (bounds leb n) c ≡ true

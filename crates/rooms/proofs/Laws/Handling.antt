@@ -25,7 +25,7 @@ use Rattle.candidates.specs.Beginnings.{shared}
 use Rattle.candidates.specs.Kinds.{only, bounds, text_of}
 use Rattle.candidates.specs.Entries.{Place, in_action, in_resource, in_row, comparison, meets_at, wild_kind}
 use Rattle.candidates.specs.Rows.{row_numbers, padded, row, content_of, is_row, is_zero}
-use Rattle.candidates.specs.Joining.{Textual, no_text, whole_text, one_text_lem, begun_text, Numeric, no_number}
+use Rattle.candidates.specs.Joining.{Textual, no_text, whole_text, single_text, begun_text, Numeric, no_number}
 use Rattle.candidates.specs.Joining.{one_number}
 use Rattle.rooms.specs.Rooms.{Slot, slot_kind, row_fits}
 use Rattle.rooms.specs.Listing.{handling, handling_by, SlotAt}
@@ -180,7 +180,7 @@ textual : (c : Content) → ((n : ℕ) → c ≡ holds (up_to n) → ⊥) → le
 unfolding row
 textual empty f e = no_text
 textual (holds itself) f e = whole_text
-textual (holds (single t)) f e = one_text_lem {t = t} (omega (arith, few (2 ∷ length t ∷ t) e))
+textual (holds (single t)) f e = single_text {t = t} (omega (arith, few (2 ∷ length t ∷ t) e))
 textual (holds (under q)) f e = begun_text {q = q} (omega (arith, few (3 ∷ length q ∷ q) e))
 textual (holds (up_to n)) f e = absurd (f n refl)
 

@@ -18,7 +18,7 @@ use Rattle.candidates.specs.Beginnings.{shared, longest}
 use Rattle.candidates.specs.Kinds.{never, bounds, text_of, one_text}
 use Rattle.candidates.specs.Entries.{Place, before, legal_beginning, wild_kind}
 use Rattle.candidates.specs.Rows.{row_numbers, text_characters, padded, row, content_of}
-use Rattle.candidates.specs.Joining.{Textual, whole_text, one_text_lem, begun_text, Numeric, no_number, one_number}
+use Rattle.candidates.specs.Joining.{Textual, whole_text, single_text, begun_text, Numeric, no_number, one_number}
 use Rattle.rooms.specs.Rooms.{Slot, row_fits, fits, row_fed, fed, found_at, row_at}
 use Rattle.rooms.specs.Walking.{Chargeable, RightAt, Right, all_right, one_right}
 use Rattle.candidates.proofs.Laws.Bounding.{counted, counted_size}
@@ -34,7 +34,7 @@ use Rattle.rooms.proofs.Laws.HandlingRows.{kind_row, number_of, text_of_lem, bou
 
 text_few : (c : Candidate) → Short c → length (text_of c) ≤ text_characters
 text_few c whole_text = omega arith
-text_few c (one_text_lem h) = h
+text_few c (single_text h) = h
 text_few c (begun_text h) = h
 
 join_short : (p : Place) (ys : List ℕ) (a b : Candidate) → Short a → Short ((wild_kind p ys).join a b)

@@ -18,7 +18,7 @@ use Rattle.text.specs.Machine as M
 use Rattle.text.specs.Reading.{Done}
 use Rattle.text.specs.declared.verdict.Verdict.TheVariants.{Whole}
 use Rattle.text.specs.declared.scan.Shape.{Shape}
-use Rattle.text.specs.declared.scan.Shape.TheVariants.{List as a_list, Object as an-object}
+use Rattle.text.specs.declared.scan.Shape.TheVariants.{List as a_list, Object as an_object}
 use Rattle.text.proofs.Laws.Reading.{takes_at, seq, frame, alike, from_empty}
 use Rattle.text.proofs.Laws.Values.{next_goes}
 use Rattle.text.proofs.Laws.Eating.{eats_done, word_eats, run_takes}
@@ -37,8 +37,8 @@ abbrev pub owed : ℕ → Piece → List Item
 owed n (a_value t) = value n ∷ []
 owed n (elements ts) = inner a_list n
 owed n (rest ts) = ws ∷ next a_list n ∷ []
-owed n (members ms) = M.before an-object ++ inner an-object n
-owed n (more ms) = ws ∷ next an-object n ∷ []
+owed n (members ms) = M.before an_object ++ inner an_object n
+owed n (more ms) = ws ∷ next an_object n ∷ []
 
 abbrev pub deepness : Piece → ℕ
 deepness (a_value t) = depth t
@@ -85,12 +85,12 @@ module _ {s : List ℕ} where
       let e = first_enters (get_or s i 0) a_list n (λ z. v.inner (sym v.at.is ∙ z)) in
       seq (alike (first a_list n ∷ []) (inner a_list n) v.at.inside e) r
 
-  enter_object : {i e : ℕ} (n : ℕ) → At s i 34 → Done s (M.before an-object ++ inner an-object n) i e
-      → Done s (first an-object n ∷ []) i e
+  enter_object : {i e : ℕ} (n : ℕ) → At s i 34 → Done s (M.before an_object ++ inner an_object n) i e
+      → Done s (first an_object n ∷ []) i e
   enter_object {i} n p r =
       let z = p.is in
-      let e = first_enters (get_or s i 0) an-object n (omega arith) in
-      seq (alike (first an-object n ∷ []) (M.before an-object ++ inner an-object n) p.inside e) r
+      let e = first_enters (get_or s i 0) an_object n (omega arith) in
+      seq (alike (first an_object n ∷ []) (M.before an_object ++ inner an_object n) p.inside e) r
 
   close_done : {i j : ℕ} (sh : Shape) (n : ℕ) → Space s i j → At s j (M.close sh) → move ws (M.close sh) ≡ pass
       → Done s (ws ∷ next sh n ∷ []) i (j + 1)
@@ -134,20 +134,20 @@ reads_done n (comma_list w o x r) h c =
     let v = elements_start r in comma_done a_list n w o x v.at v.black (reads_done n r h tt)
 reads_done zero (empty_object o w p) h c = absurd (omega arith)
 reads_done (suc n) (empty_object o w p) h c =
-    open_done an-object n 125 o w p refl (takes_at (first an-object n) [] p [] (first_close 125 an-object n refl))
+    open_done an_object n 125 o w p refl (takes_at (first an_object n) [] p [] (first_close 125 an_object n refl))
 reads_done zero (some_object o w r) h c = absurd (omega arith)
 reads_done (suc n) (some_object o w r) h c =
-    let v = members_start r in open_done an-object n 34 o w v refl (enter_object n v (reads_done n r (omega arith) tt))
+    let v = members_start r in open_done an_object n 34 o w v refl (enter_object n v (reads_done n r (omega arith) tt))
 reads_done n (member {t = t} {ms = ms} q w o x v r) h c =
     let b = value_starts v in
-    seq (frame (ws ∷ byte 58 ∷ ws ∷ inner an-object n) (quoted_done q))
-    (seq (frame (byte 58 ∷ ws ∷ inner an-object n) (space_done w o refl))
-    (seq (takes_at (byte 58) (ws ∷ inner an-object n) o [] (byte_is 58 58 refl))
-    (seq (frame (inner an-object n) (space_done x b.at b.black))
-    (seq (frame (ws ∷ next an-object n ∷ []) (reads_done n v (omega arith) (ends_more r)))
+    seq (frame (ws ∷ byte 58 ∷ ws ∷ inner an_object n) (quoted_done q))
+    (seq (frame (byte 58 ∷ ws ∷ inner an_object n) (space_done w o refl))
+    (seq (takes_at (byte 58) (ws ∷ inner an_object n) o [] (byte_is 58 58 refl))
+    (seq (frame (inner an_object n) (space_done x b.at b.black))
+    (seq (frame (ws ∷ next an_object n ∷ []) (reads_done n v (omega arith) (ends_more r)))
     (reads_done n r (omega arith) tt)))))
-reads_done n (close_object w p) h c = close_done an-object n w p refl
-reads_done n (comma_object w o x r) h c = comma_done an-object n w o x (members_start r) refl (reads_done n r h tt)
+reads_done n (close_object w p) h c = close_done an_object n w p refl
+reads_done n (comma_object w o x r) h c = comma_done an_object n w o x (members_start r) refl (reads_done n r h tt)
 
 -- what is no number, true, false or null ends with a byte of its own, whatever follows
 pub data Shut : Json → Type 0 where
@@ -170,10 +170,10 @@ shut_done (suc n) shut_list (some_list o w r) h =
     open_done a_list n v.first o w v.at v.black (enter_list n v (reads_done n r (omega arith) tt))
 shut_done zero shut_object (empty_object o w p) h = absurd (omega arith)
 shut_done (suc n) shut_object (empty_object o w p) h =
-    open_done an-object n 125 o w p refl (takes_at (first an-object n) [] p [] (first_close 125 an-object n refl))
+    open_done an_object n 125 o w p refl (takes_at (first an_object n) [] p [] (first_close 125 an_object n refl))
 shut_done zero shut_object (some_object o w r) h = absurd (omega arith)
 shut_done (suc n) shut_object (some_object o w r) h =
-    let v = members_start r in open_done an-object n 34 o w v refl (enter_object n v (reads_done n r (omega arith) tt))
+    let v = members_start r in open_done an_object n 34 o w v refl (enter_object n v (reads_done n r (omega arith) tt))
 
 -- a JSON text of at most n levels is whole for the twin
 pub text_complete : (n : ℕ) (s : List ℕ) → Text n s → verdict_at n s ≡ Whole

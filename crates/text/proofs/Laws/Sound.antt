@@ -12,7 +12,7 @@ use Rattle.text.specs.Json.{rest, members, a_null, a_true, a_false, element, mem
 use Rattle.text.specs.Machine.{Item, bad, ws, byte, text, value, next, before, inner, move, optional, verdict_at}
 use Rattle.text.specs.Verdicts.{Text}
 use Rattle.text.specs.declared.verdict.Verdict.TheVariants.{Whole, Breaks}
-use Rattle.text.specs.declared.scan.Shape.TheVariants.{List as a_list, Object as an-object}
+use Rattle.text.specs.declared.scan.Shape.TheVariants.{List as a_list, Object as an_object}
 use Rattle.text.proofs.Laws.Places.{Alive, alive_inside, not_whole, past_end}
 use Rattle.text.proofs.Laws.Taking.Items.{from_end, alive_refuses, alive_byte}
 use Rattle.text.proofs.Laws.Taking.Spaces.{alive_space}
@@ -88,10 +88,10 @@ some_elements n ys on v =
     (omega (arith, t.later))
 
 some_members : {s : List ℕ} {i : ℕ} (n : ℕ) (ys : List Item) → Later s i
-    → Alive s ((before an-object ++ inner an-object n) ++ ys) i → Found Members members depthm s n ys i
+    → Alive s ((before an_object ++ inner an_object n) ++ ys) i → Found Members members depthm s n ys i
 unfolding depth
 some_members n ys on v =
-    let rest = ws ∷ next an-object n ∷ ys in
+    let rest = ws ∷ next an_object n ∷ ys in
     let o = alive_byte 34 (text ∷ ws ∷ byte 58 ∷ ws ∷ value n ∷ rest) v in
     let q = alive_text (ws ∷ byte 58 ∷ ws ∷ value n ∷ rest) o.next in
     let w = alive_space (byte 58 ∷ ws ∷ value n ∷ rest) q.next in

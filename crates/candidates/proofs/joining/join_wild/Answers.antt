@@ -10,7 +10,7 @@ pub bounds-other-0 : goal.bounds-other-0
 bounds-other-0 c = omega (arith, (stands c.requires.1).size)
 
 pub returns-then-other-eq-EMPTY : goal.returns-then-other-eq-EMPTY
-returns-then-other-eq-EMPTY c = λ p x y e tx ty f g. nothing_second p _ x y ty (standing y ty g) c.if-other-eq-EMPTY.true f
+returns-then-other-eq-EMPTY c = λ p x y e tx ty f g. nothing_second p _ x y ty (standing y ty g) (omega arith) f
 
 pub bounds-out-0 : goal.bounds-out-0
 bounds-out-0 c = omega (arith, (stands c.requires.0).size)
@@ -38,7 +38,7 @@ put_mark-requires c =
 pub returns-then-wild-ne1 : goal.returns-then-wild-ne1
 returns-then-wild-ne1 c =
     λ p x y e tx ty f g. joined_other p _ x y tx ty f g (standing x tx f) (standing y ty g) c.if-out-eq-EMPTY.false
-    c.if-other-eq-EMPTY.false (sym c.is_one_text.ensures ∙ c.if-is_one_text.false)
+    (omega arith) (sym c.is_one_text.ensures ∙ c.if-is_one_text.false)
     (λ z. c.if-wild-ne1.true (c.wild.ensures ∙ z)) c.put_mark.ensures
 
 pub overflow_sub-last : goal.overflow_sub-last
@@ -54,5 +54,5 @@ put_shared-requires c =
 pub returns : goal.returns
 returns c =
     λ p x y e tx ty f g. joined_final p _ x y tx ty f g (standing x tx f) (standing y ty g) c.if-out-eq-EMPTY.false
-    c.if-other-eq-EMPTY.false (sym c.is_one_text.ensures ∙ c.if-is_one_text.false)
+    (omega arith) (sym c.is_one_text.ensures ∙ c.if-is_one_text.false)
     (sym c.wild.ensures ∙ c.if-wild-ne1.false) (c.put_shared.ensures p x y e tx ty f g)

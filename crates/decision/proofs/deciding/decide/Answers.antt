@@ -20,8 +20,8 @@ use Rattle.decision.proofs.Laws.DecidingOrder.{told_allowed, told_denied, left_a
 use Rattle.decision.proofs.deciding.decide.Goals as goal
 use Rattle.decision.proofs.deciding.decide.Goals.{then-i-n, then-j-m}
 use Rattle.decision.proofs.deciding.decide.Goals.{else-j-m+then-matches_at+then-not-holds_behind}
-use Rattle.decision.proofs.deciding.decide.Goals.{else-j-m+then-matches_at+else-not-holds_behind+else-policy-p-eq2}
-use Rattle.decision.proofs.deciding.decide.Goals.{else-i-n+else-j-m+then-matches_at+else-not-holds_behind+then-policy-p-eq2}
+use Rattle.decision.proofs.deciding.decide.Goals.{else-j-m+then-matches_at+else-not-holds_behind+else-policy-p-eq-DENY}
+use Rattle.decision.proofs.deciding.decide.Goals.{else-i-n+else-j-m+then-matches_at+else-not-holds_behind+then-policy-p-eq-DENY}
 
 pub bounds-policy-0 : goal.bounds-policy-0
 bounds-policy-0 c =
@@ -161,12 +161,12 @@ statements-preserved c =
           (λ x l. t.matches_at.ensures x q.action l (action_lies q m)) t.if-matches_at.true in
           told_passed a i s ss q kept t.matching-is
           (matched s q found ∙ sym (t.holds_behind.ensures s q z m) ∙ t.if-not-holds_behind.true)
-      | else-j-m+then-matches_at+else-not-holds_behind+else-policy-p-eq2 t ↦
+      | else-j-m+then-matches_at+else-not-holds_behind+else-policy-p-eq-DENY t ↦
           let found = some_is (λ u. matches u q.action) v (coming_more v t.if-j-m.false)
           (λ x l. t.matches_at.ensures x q.action l (action_lies q m)) t.if-matches_at.true in
           told_allowed a i s ss q kept t.matching-is
           (matched s q found ∙ sym (t.holds_behind.ensures s q z m) ∙ t.if-not-holds_behind.false)
-          (is_allow s.effect (statement_effect s z) t.if-policy-p-eq2.false)
+          (is_allow s.effect (statement_effect s z) t.if-policy-p-eq-DENY.false)
     ])
 
 pub returns-then-denied-ne0 : goal.returns-then-denied-ne0
@@ -175,7 +175,7 @@ returns-then-denied-ne0 c =
     let w = c.statements.invariant (lying x l) (lying q m) in
     elim c.if-i-n.branch [
       | then-i-n t ↦ absurd (c.if-denied-ne0.true t.denied-is)
-      | else-i-n+else-j-m+then-matches_at+else-not-holds_behind+then-policy-p-eq2 t ↦
+      | else-i-n+else-j-m+then-matches_at+else-not-holds_behind+then-policy-p-eq-DENY t ↦
           let y = coming_now w (coming_more w t.if-i-n.false) in
           let s = y.head in
           let v = t.entries.invariant (lying s y.lies) (lying q m) in
@@ -184,7 +184,7 @@ returns-then-denied-ne0 c =
           ap Denied t.denied-is
           ∙ told_denied c.statements.allowed c.statements.i s y.tail q
           (matched s q found ∙ sym (t.holds_behind.ensures s q y.lies m) ∙ t.if-not-holds_behind.false)
-          (is_deny s.effect (statement_effect s y.lies) t.if-policy-p-eq2.true)
+          (is_deny s.effect (statement_effect s y.lies) t.if-policy-p-eq-DENY.true)
           ∙ y.same
     ]
 
@@ -196,7 +196,7 @@ returns-then-allowed-ne0 c =
       | then-i-n t ↦
           left_allowed (c.statements.i + 1) q c.statements.allowed c.if-allowed-ne0.true
           ∙ coming_end w (omega (arith, t.if-i-n.true))
-      | else-i-n+else-j-m+then-matches_at+else-not-holds_behind+then-policy-p-eq2 t ↦
+      | else-i-n+else-j-m+then-matches_at+else-not-holds_behind+then-policy-p-eq-DENY t ↦
           absurd (omega (arith, t.denied-is, c.if-denied-ne0.false))
     ]
 
@@ -208,6 +208,6 @@ returns c =
       | then-i-n t ↦
           left_implicit (c.statements.i + 1) q c.statements.allowed c.if-allowed-ne0.false
           ∙ coming_end w (omega (arith, t.if-i-n.true))
-      | else-i-n+else-j-m+then-matches_at+else-not-holds_behind+then-policy-p-eq2 t ↦
+      | else-i-n+else-j-m+then-matches_at+else-not-holds_behind+then-policy-p-eq-DENY t ↦
           absurd (omega (arith, t.denied-is, c.if-denied-ne0.false))
     ]

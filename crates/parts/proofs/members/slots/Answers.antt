@@ -62,7 +62,7 @@ pub returns-then-places-k-ne0 : goal.returns-then-places-k-ne0
 returns-then-places-k-ne0 c =
     let few = layout_few c.args.layout in
     walking_told c.loop-m.invariant _ (walking_repeated c.loop-m.invariant c.in-Named.name c.in-Named.end c.in-Named.value c.in-Named.is few
-    c.which-k.result c.which-k.ensures c.if-k-eq0.false c.if-places-k-ne0.true)
+    c.which-k.result c.which-k.ensures c.if-k-eq0.false (omega arith))
 
 pub offset_bounds-places-k-in-Named : goal.offset_bounds-places-k-in-Named
 offset_bounds-places-k-in-Named c =
@@ -115,7 +115,7 @@ loop-m-preserved c =
     walking_more c.loop-m.invariant c.in-Named.name c.in-Named.end c.in-Named.value c.in-Named.is few
     c.which-k.result c.which-k.ensures
     c.if-k-eq0.false
-    c.if-places-k-ne0.false (layout_distinct c.args.layout) _ leads
+    (omega arith) (layout_distinct c.args.layout) _ leads
 
 pub bounds-places-0 : goal.bounds-places-0
 bounds-places-0 c = omega (arith, c.loop-m.invariant.size)

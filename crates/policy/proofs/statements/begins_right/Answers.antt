@@ -34,4 +34,4 @@ pub returns : goal.returns
 returns c =
     λ z ms e p.
     first_other p (c.first_member-m.ensures ms e p) _ _ _ c.in-Named.is c.which.result
-    c.which.ensures c.if-which-ne1.false c.is_edition.result c.is_edition.ensures z
+    c.which.ensures (omega arith) c.is_edition.result c.is_edition.ensures z

@@ -1,4 +1,5 @@
 -- By the word's turn a member is unknown, the Version or the Statement; each of these comes once and is tested or held.
+use native.Mathlib.Omega.{arith}
 use mathlib.Core.Path.{refl, sym, ◌∙◌}
 use Rattle.held.specs.Held.{held}
 use Rattle.parts.proofs.Laws.Formed.{ends_past, ends_wrong}
@@ -10,7 +11,7 @@ pub returns-then-k-eq0 : goal.returns-then-k-eq0
 returns-then-k-eq0 c = λ t e p. (refl, unknown c.if-k-eq0.true)
 
 pub returns-then-version-ne0 : goal.returns-then-version-ne0
-returns-then-version-ne0 c = λ t e p. (refl, version_again c.if-k-eq1.true c.if-version-ne0.true)
+returns-then-version-ne0 c = λ t e p. (refl, version_again c.if-k-eq1.true (omega arith))
 
 pub is_edition-requires : goal.is_edition-requires
 is_edition-requires c =
@@ -20,7 +21,7 @@ pub returns-then-not-is_edition : goal.returns-then-not-is_edition
 returns-then-not-is_edition c =
     λ t e p. (
       refl,
-      version_wrong c.if-k-eq1.true c.if-version-ne0.false
+      version_wrong c.if-k-eq1.true (omega arith)
           (sym (c.is_edition.ensures t e p) ∙ c.if-not-is_edition.true),
     )
 
@@ -31,7 +32,7 @@ past_value-requires c =
 pub returns-then-k-eq1 : goal.returns-then-k-eq1
 returns-then-k-eq1 c =
     λ t e p. (
-      a_version c.if-k-eq1.true c.if-version-ne0.false
+      a_version c.if-k-eq1.true (omega arith)
           (sym (c.is_edition.ensures t e p) ∙ c.if-not-is_edition.false) refl refl refl,
       c.past_value.ensures t e p,
     )

@@ -15,9 +15,6 @@ returns-then-left-w-lt2 c = unless_none
 pub returns-then-s-at-ne34 : goal.returns-then-s-at-ne34
 returns-then-s-at-ne34 c = unless_none
 
-pub returns-then-s-to-ne34 : goal.returns-then-s-to-ne34
-returns-then-s-to-ne34 c = unless_none
-
 pub returns-then-not-spells : goal.returns-then-not-spells
 returns-then-not-spells c = unless_none
 
@@ -26,5 +23,5 @@ returns c =
     unless_some
     (quoted_bare c.requires
     (record { inside = omega (arith, c.if-left-w.false); is = c.if-s-at-ne34.false })
-    (record { inside = omega (arith, c.if-left-w.false, c.if-left-w-lt2.false); is = c.if-s-to-ne34.false })
+    (record { inside = omega (arith, c.if-left-w.false, c.if-left-w-lt2.false); is = omega arith })
     (c.spells.ensures c.if-not-spells.false))

@@ -6,7 +6,7 @@ use native.Mathlib.Omega.{arith}
 use Rattle.text.specs.Json.{Json, Values, Members, depth, depths, depthm, Piece, a_value, elements, rest, members}
 use Rattle.text.specs.Json.{more, Reads}
 use Rattle.text.specs.Machine.{Item, ws, value, next, before, inner}
-use Rattle.text.specs.declared.scan.Shape.TheVariants.{List as a_list, Object as an-object}
+use Rattle.text.specs.declared.scan.Shape.TheVariants.{List as a_list, Object as an_object}
 use Rattle.text.proofs.Laws.Places.{Alive}
 
 -- a piece stands at a place, within n levels, and behind it the items ys are owed
@@ -36,9 +36,9 @@ pub record All (s : List ℕ) (i : ℕ) : Type 0 where
   pub a_value_at : (n : ℕ) (ys : List Item) → Alive s (value n ∷ ys) i → Value s n ys i
   pub elements_at : (n : ℕ) (ys : List Item) → Alive s (inner a_list n ++ ys) i → Found Values elements depths s n ys i
   pub rest_at : (n : ℕ) (ys : List Item) → Alive s (ws ∷ next a_list n ∷ ys) i → Found Values rest depths s n ys i
-  pub members_at : (n : ℕ) (ys : List Item) → Alive s ((before an-object ++ inner an-object n) ++ ys) i
+  pub members_at : (n : ℕ) (ys : List Item) → Alive s ((before an_object ++ inner an_object n) ++ ys) i
       → Found Members members depthm s n ys i
-  pub more_at : (n : ℕ) (ys : List Item) → Alive s (ws ∷ next an-object n ∷ ys) i → Found Members more depthm s n ys i
+  pub more_at : (n : ℕ) (ys : List Item) → Alive s (ws ∷ next an_object n ∷ ys) i → Found Members more depthm s n ys i
 
 abbrev pub Later : List ℕ → ℕ → Type 0
 Later s i = (j : ℕ) → i < j → j ≤ length s → All s j

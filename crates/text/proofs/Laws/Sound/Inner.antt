@@ -12,7 +12,7 @@ use Rattle.text.specs.Json.{close_object, comma_object}
 use Rattle.text.specs.Machine.{Item, ws, value, first, next, before, inner, optional}
 use Rattle.text.specs.Machine as M
 use Rattle.text.specs.declared.scan.Shape.{Shape}
-use Rattle.text.specs.declared.scan.Shape.TheVariants.{List as a_list, Object as an-object}
+use Rattle.text.specs.declared.scan.Shape.TheVariants.{List as a_list, Object as an_object}
 use Rattle.text.proofs.Laws.Reading.{sinks, alike}
 use Rattle.text.proofs.Laws.Places.{Alive, alive_fall, alive_seq, alive_inside}
 use Rattle.text.proofs.Laws.Taking.Items.{alive_takes, alive_refuses}
@@ -75,14 +75,14 @@ list_value {s} {i} (suc n) ys on h e v =
 pub object_value : {s : List ℕ} {i : ℕ} (n : ℕ) (ys : List Item) → Later s i → i < length s → get_or s i 0 ≡ 123
     → Alive s (value n ∷ ys) i → Value s n ys i
 unfolding depth
-object_value zero ys on h e v = absurd (no_level an-object ys h e v)
+object_value zero ys on h e v = absurd (no_level an_object ys h e v)
 object_value {s} {i} (suc n) ys on h e v =
-    let w = behind_value an-object n ys h e v in by w (space_low w.space) (behind_open an-object n ys w.next)
+    let w = behind_value an_object n ys h e v in by w (space_low w.space) (behind_open an_object n ys w.next)
   where
     o : At s i 123
     o = record { inside = h; is = e }
 
-    by : (w : Spaced s (first an-object n ∷ ys) (i + 1)) → i + 1 ≤ w.stop → Opened s an-object n ys w.stop
+    by : (w : Spaced s (first an_object n ∷ ys) (i + 1)) → i + 1 ≤ w.stop → Opened s an_object n ys w.stop
         → Value s (suc n) ys i
     by w l (empty p a) =
         found (object no_members) (w.stop + 1) (empty_object o w.space p) (omega arith) (omega arith) a
@@ -124,13 +124,13 @@ rest_value {s} {i} n ys on v =
         let r = (on x.stop (omega arith) x.next.high).elements_at n ys x.next in
         found_with r r.what (comma_list w.space p x.space r.reads) r.shallow (omega arith)
 
-pub more_value : {s : List ℕ} {i : ℕ} (n : ℕ) (ys : List Item) → Later s i → Alive s (ws ∷ next an-object n ∷ ys) i
+pub more_value : {s : List ℕ} {i : ℕ} (n : ℕ) (ys : List Item) → Later s i → Alive s (ws ∷ next an_object n ∷ ys) i
     → Found Members more depthm s n ys i
 unfolding depth
 more_value {s} {i} n ys on v =
-    let w = alive_space (next an-object n ∷ ys) v in by w (space_low w.space) (behind_inner an-object n ys w.next)
+    let w = alive_space (next an_object n ∷ ys) v in by w (space_low w.space) (behind_inner an_object n ys w.next)
   where
-    by : (w : Spaced s (next an-object n ∷ ys) i) → i ≤ w.stop → Onward s an-object n ys w.stop
+    by : (w : Spaced s (next an_object n ∷ ys) i) → i ≤ w.stop → Onward s an_object n ys w.stop
         → Found Members more depthm s n ys i
     by w l (closed p a) = found no_members (w.stop + 1) (close_object w.space p) (omega arith) (omega arith) a
     by w l (comma p x) =
