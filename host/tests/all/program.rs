@@ -208,11 +208,11 @@ fn nothing_used() {
     prints(Some(POLICY.as_bytes()), b"\n\n\n", "refused 10 at 0\n");
 }
 
-#[test]
-fn the_example_of_the_gate() {
-    let folder = root().join("examples/gate");
+/// An example's policy and log print what is expected of it.
+fn printed_as_expected(folder: &str, log: &str) {
+    let folder = root().join("examples").join(folder);
     let read = |name: &str| fs::read(folder.join(name)).expect("the example is whole");
-    let run = run(Some(&read("policy.json")), &read("night.log"));
+    let run = run(Some(&read("policy.json")), &read(log));
     assert_eq!(
         String::from_utf8_lossy(&run.output),
         String::from_utf8_lossy(&read("expected.txt"))
@@ -220,14 +220,13 @@ fn the_example_of_the_gate() {
 }
 
 #[test]
+fn the_example_of_the_gate() {
+    printed_as_expected("gate", "night.log");
+}
+
+#[test]
 fn the_example_of_days() {
-    let folder = root().join("examples/days");
-    let read = |name: &str| fs::read(folder.join(name)).expect("the example is whole");
-    let run = run(Some(&read("policy.json")), &read("gate.log"));
-    assert_eq!(
-        String::from_utf8_lossy(&run.output),
-        String::from_utf8_lossy(&read("expected.txt"))
-    );
+    printed_as_expected("days", "gate.log");
 }
 
 /// A log of many pieces, so that lines are cut at every place of a record.

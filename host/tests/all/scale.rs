@@ -77,12 +77,13 @@ fn every_way(policy: &[u8], log: &[u8], seed: u64) -> Walked {
     once
 }
 
-#[test]
-fn the_night_of_the_gate() {
-    let folder = Path::new(env!("CARGO_MANIFEST_DIR")).join("../examples/gate");
+/// An example's log, walked in every way, comes to what is expected of it.
+fn walked_as_expected(folder: &str, log: &str) {
+    let examples = Path::new(env!("CARGO_MANIFEST_DIR")).join("../examples");
+    let folder = examples.join(folder);
     let read = |name: &str| fs::read(folder.join(name)).expect("the example is whole");
     let policy = read("policy.json");
-    let walked = every_way(&policy, &read("night.log"), 1);
+    let walked = every_way(&policy, &read(log), 1);
     assert_eq!(walked.refused, BTreeMap::from([(8, 2)]));
     let expected = read("expected.txt");
     let last = expected.trim_ascii_end().rsplit(|&byte| byte == b'\n');
@@ -91,16 +92,13 @@ fn the_night_of_the_gate() {
 }
 
 #[test]
+fn the_night_of_the_gate() {
+    walked_as_expected("gate", "night.log");
+}
+
+#[test]
 fn the_days_of_the_gate() {
-    let folder = Path::new(env!("CARGO_MANIFEST_DIR")).join("../examples/days");
-    let read = |name: &str| fs::read(folder.join(name)).expect("the example is whole");
-    let policy = read("policy.json");
-    let walked = every_way(&policy, &read("gate.log"), 1);
-    assert_eq!(walked.refused, BTreeMap::from([(8, 2)]));
-    let expected = read("expected.txt");
-    let last = expected.trim_ascii_end().rsplit(|&byte| byte == b'\n');
-    let refined = walked.room.finish(&policy).expect("a refined policy");
-    assert_eq!(Some(&refined[..]), last.into_iter().next());
+    walked_as_expected("days", "gate.log");
 }
 
 /// What is written lets the gate in on other days too: no date is left in it.
