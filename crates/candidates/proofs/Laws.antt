@@ -20,9 +20,11 @@ pub mod Fitting
 pub mod FittingWild
 pub mod FittingText
 pub mod FittingBound
+pub mod Chains
 pub mod Charging
 pub mod ChargingLeast
 pub mod Joining
 pub mod JoiningWild
 pub mod JoiningLeast
+pub mod Blocks
 pub mod Bounding

@@ -1,23 +1,23 @@
--- Places as numbers, for the code, and what it tests of a candidate's characters.
---   place_number p        0 Action, an operator's number in a condition, 4 Resource;  Placed n   n is such a number
+-- Places and wildcards as the code has them, and what it tests of a candidate's characters.
+--   place_is p            the place that p names
 --   form_of p cs          the form of the list p, where characters stand for themselves;  star_of p   a final star there
---   wild_number ys        0 no wildcard, 1 one, a final *, 2 others
+--   wild_of ys            no wildcard; one, a final *, by its place; or others
 --   Starts q a before after   after begins with q and then a, and has the length of before
-use Rattle.std.specs.Prelude.{◌≡◌, Bool, true, List, [], ◌∷◌, ◌++◌, ℕ, suc, eqb, length, take}
+use Rattle.std.specs.Prelude.{◌≡◌, Bool, true, List, [], ◌∷◌, ◌++◌, ℕ, suc, ◌-◌, eqb, length, take}
 use Rattle.chars.specs.Base.{pick}
 use Rattle.syntax.specs.Policy.{star}
 use Rattle.syntax.specs.Forms.{both, is_action, is_resource}
-use Rattle.held.specs.Held.{operator_number}
+use Rattle.parts.specs.Spoken.{operator_is}
 use Rattle.candidates.specs.Entries.{Place, in_action, in_resource, in_row, wildcards, last_of}
+use Rattle.candidates.specs.declared.kinds.Wild.{Wild}
+use Rattle.candidates.specs.declared.kinds.Wild.TheVariants as W
+use Rattle.candidates.specs.declared.places.Place.TheVariants as P
+use Rattle.candidates.specs.declared.places.Place as code
 
-abbrev pub place_number : Place → ℕ
-place_number in_action = 0
-place_number in_resource = 4
-place_number (in_row o) = operator_number o
-
-pub record Placed (n : ℕ) : Type 0 where
-  pub place : Place
-  pub is : n ≡ place_number place
+abbrev pub place_is : code.Place → Place
+place_is P.Action = in_action
+place_is P.Resource = in_resource
+place_is (P.Row o) = in_row (operator_is o)
 
 abbrev pub form_of : Place → List ℕ → Bool
 form_of in_action cs = is_action cs
@@ -29,9 +29,10 @@ star_of in_action = 42
 star_of in_resource = star
 star_of (in_row o) = star
 
-unfoldable pub wild_number : List ℕ → ℕ
-wild_number ys =
-    pick (eqb (wildcards ys) 0) 0 (pick (both (eqb (wildcards ys) 1) (eqb (last_of ys) star)) 1 2)
+unfoldable pub wild_of : List ℕ → Wild
+wild_of ys =
+    pick (eqb (wildcards ys) 0) W.Without
+    (pick (both (eqb (wildcards ys) 1) (eqb (last_of ys) star)) (W.FinalStar (length ys - 1)) W.Others)
 
 pub record Starts (q : List ℕ) (a : ℕ) (before after : List ℕ) : Type 0 where
   pub size : length after ≡ length before

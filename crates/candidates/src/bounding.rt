@@ -13,15 +13,9 @@ pub fn charge_bound(n: u64, out: &mut [u32])
     requires { Numbered out.old }
     ensures { (k : ℕ) (c : Content) → Numeric c → out.old ≡ row c → out.new ≡ row (charged (bounds leb k) c (number n)) }
 {
-    if out[0] == rows::EMPTY {
+    if out[0] == rows::EMPTY || n >= fitting::number_in(out) {
         rows::put_number(out, rows::NUMBER, n);
-        return;
     }
-    let m = fitting::number_in(out);
-    if m > n {
-        return;
-    }
-    rows::put_number(out, rows::NUMBER, n);
 }
 
 // The least bound that covers both, in the first row.
@@ -29,9 +23,7 @@ pub fn join_bound(out: &mut [u32], other: &[u32])
     requires { (Numbered out.old) × (Numbered other.now) }
     ensures { (k : ℕ) (c d : Content) → Numeric c → Numeric d → out.old ≡ row c → other.now ≡ row d → out.new ≡ row (joined (bounds leb k) c d) }
 {
-    if other[0] == rows::EMPTY {
-        return;
+    if other[0] != rows::EMPTY {
+        charge_bound(fitting::number_in(other), out);
     }
-    let n = fitting::number_in(other);
-    charge_bound(n, out);
 }

@@ -2,11 +2,13 @@
 ghost use Rattle.std.specs.Prelude.{◌≡◌, length, get_or, drop, ◌+◌, ◌*◌, ◌≤◌, Bool, leb};
 ghost use Rattle.syntax.specs.Policy.{StringLike, Value};
 ghost use Rattle.candidates.specs.Kinds.{only, bounds};
-ghost use Rattle.candidates.specs.Entries.{Place, comparison, wild_kind};
-ghost use Rattle.candidates.specs.Places.{place_number};
+ghost use Rattle.candidates.specs.Entries.{comparison, wild_kind};
+ghost use Rattle.candidates.specs.Places.{place_is};
 ghost use Rattle.candidates.specs.Rows.{row_numbers, is_zero, number_in, is_row};
 
-use crate::{kinds, legality, rows};
+use crate::kinds::Wild;
+use crate::places::Place;
+use crate::{legality, rows};
 use decision::matching;
 use held::limits;
 
@@ -15,70 +17,59 @@ fn is_zero_from(row: &[u32], from: usize) -> bool
     requires { from ≤ length row.now }
     ensures { result ≡ is_zero (drop from row.now) }
 {
-    let to = row.len();
-    rows::is_zero(&row[from..to])
+    rows::is_zero(&row[from..])
 }
 
 // A row that holds a single text.
-fn fits_single(place: u32, ys: &[u32], row: &[u32]) -> bool
+fn fits_single(place: Place, ys: &[u32], row: &[u32]) -> bool
     requires { length row.now ≡ row_numbers }
-    ensures { (p : Place) → place ≡ place_number p → comparison p ≡ StringLike → get_or row.now 0 0 ≡ 2 → result ≡ is_row (wild_kind p ys.now) row.now }
+    ensures { comparison (place_is place) ≡ StringLike → get_or row.now 0 0 ≡ 2 → result ≡ is_row (wild_kind (place_is place) ys.now) row.now }
 {
     let n = row[1] as usize;
     if n > limits::ENTRY {
         return false;
     }
     let to = n + 2;
-    if !is_zero_from(row, to) {
-        return false;
+    match Wild::of(ys) {
+        Wild::Without => false,
+        Wild::FinalStar(_) | Wild::Others => {
+            is_zero_from(row, to)
+                && matching::matches(ys, &row[2..to])
+                && legality::legal_text(place, &row[2..to])
+        }
     }
-    if kinds::wild(ys) == 0 {
-        return false;
-    }
-    if !matching::matches(ys, &row[2..to]) {
-        return false;
-    }
-    legality::legal_text(place, &row[2..to])
 }
 
 // A row that holds a beginning.
-fn fits_beginning(place: u32, ys: &[u32], row: &[u32]) -> bool
+fn fits_beginning(place: Place, ys: &[u32], row: &[u32]) -> bool
     requires { length row.now ≡ row_numbers }
-    ensures { (p : Place) → place ≡ place_number p → get_or row.now 0 0 ≡ 3 → result ≡ is_row (wild_kind p ys.now) row.now }
+    ensures { get_or row.now 0 0 ≡ 3 → result ≡ is_row (wild_kind (place_is place) ys.now) row.now }
 {
     let n = row[1] as usize;
     if n > limits::ENTRY {
         return false;
     }
     let to = n + 2;
-    if !is_zero_from(row, to) {
-        return false;
+    match Wild::of(ys) {
+        Wild::FinalStar(star) => {
+            is_zero_from(row, to) && legality::legal_beginning(place, &ys[..star], &row[2..to])
+        }
+        Wild::Without | Wild::Others => false,
     }
-    if kinds::wild(ys) != 1 {
-        return false;
-    }
-    let last = ys.len() - 1;
-    legality::legal_beginning(place, &ys[0..last], &row[2..to])
 }
 
 // Can the entry ys at a place have this row?
-pub fn fits_wild(place: u32, ys: &[u32], row: &[u32]) -> bool
+pub fn fits_wild(place: Place, ys: &[u32], row: &[u32]) -> bool
     requires { length row.now ≡ row_numbers }
-    ensures { (p : Place) → place ≡ place_number p → comparison p ≡ StringLike → result ≡ is_row (wild_kind p ys.now) row.now }
+    ensures { comparison (place_is place) ≡ StringLike → result ≡ is_row (wild_kind (place_is place) ys.now) row.now }
 {
-    if row[0] == rows::EMPTY {
-        return rows::is_zero(row);
+    match row[0] {
+        rows::EMPTY => rows::is_zero(row),
+        rows::ITSELF => is_zero_from(row, 1),
+        rows::SINGLE => fits_single(place, ys, row),
+        rows::BEGINNING => fits_beginning(place, ys, row),
+        _ => false,
     }
-    if row[0] == rows::ITSELF {
-        return is_zero_from(row, 1);
-    }
-    if row[0] == rows::SINGLE {
-        return fits_single(place, ys, row);
-    }
-    if row[0] == rows::BEGINNING {
-        return fits_beginning(place, ys, row);
-    }
-    false
 }
 
 // Can an entry that is compared with a text have this row: nothing, or the entry itself?
@@ -86,13 +77,11 @@ pub fn fits_only(row: &[u32]) -> bool
     requires { length row.now ≡ row_numbers }
     ensures { (m : Value → Bool) → result ≡ is_row (only m) row.now }
 {
-    if row[0] == rows::EMPTY {
-        return rows::is_zero(row);
+    match row[0] {
+        rows::EMPTY => rows::is_zero(row),
+        rows::ITSELF => is_zero_from(row, 1),
+        _ => false,
     }
-    if row[0] == rows::ITSELF {
-        return is_zero_from(row, 1);
-    }
-    false
 }
 
 fn whole(upper: u32, lower: u32) -> u64
@@ -114,14 +103,9 @@ pub fn fits_bound(n: u64, row: &[u32]) -> bool
     requires { length row.now ≡ row_numbers }
     ensures { result ≡ is_row (bounds leb n) row.now }
 {
-    if row[0] == rows::EMPTY {
-        return rows::is_zero(row);
+    match row[0] {
+        rows::EMPTY => rows::is_zero(row),
+        rows::NUMBER => is_zero_from(row, 3) && number_in(row) <= n,
+        _ => false,
     }
-    if row[0] != rows::NUMBER {
-        return false;
-    }
-    if !is_zero_from(row, 3) {
-        return false;
-    }
-    number_in(row) <= n
 }

@@ -1,50 +1,41 @@
 // The kind of an entry, by its wildcards.
-ghost use Rattle.std.specs.Prelude.{◌≡◌, [], ◌∷◌};
+ghost use Rattle.std.specs.Prelude.{◌≡◌, eqb};
+ghost use Rattle.syntax.specs.Policy.{star, any};
+ghost use Rattle.syntax.specs.Forms.{either};
 ghost use Rattle.candidates.specs.Entries.{wildcards};
-ghost use Rattle.candidates.specs.Places.{wild_number};
+ghost use Rattle.candidates.specs.Places.{wild_of};
 
 use syntax::forms;
 
-// 1 for a wildcard, 0 for another symbol.
-fn one_of(y: u32) -> usize
-    ensures { result ≡ wildcards (y ∷ []) }
+// The wildcards of an entry: none; one, a final star, by its place; or others.
+#[derive(Clone, Copy, PartialEq, Eq)]
+pub enum Wild {
+    Without,
+    FinalStar(usize),
+    Others,
+}
+
+fn is_wildcard(y: u32) -> bool
+    ensures { result ≡ either (eqb y star) (eqb y any) }
 {
-    if y == forms::STAR {
-        return 1;
-    }
-    if y == forms::ANY {
-        return 1;
-    }
-    0
+    y == forms::STAR || y == forms::ANY
 }
 
 // How many wildcards an entry has.
 fn wildcards(ys: &[u32]) -> usize
     ensures { result ≡ wildcards ys.now }
 {
-    let mut n = 0usize;
-    let mut i = 0usize;
-    while i < ys.len() {
-        n = n + one_of(ys[i]);
-        i = i + 1;
-    }
-    n
+    ys.iter().filter(|y| is_wildcard(**y)).count()
 }
 
-// 0 where an entry has no wildcard, 1 where it has one, a final star, 2 where it has others.
-pub fn wild(ys: &[u32]) -> u32
-    ensures { result ≡ wild_number ys.now }
-{
-    let n = wildcards(ys);
-    if n == 0 {
-        return 0;
+impl Wild {
+    pub fn of(ys: &[u32]) -> Wild
+        ensures { result ≡ wild_of ys.now }
+    {
+        match wildcards(ys) {
+            0 => Wild::Without,
+            1 if ys[ys.len() - 1] == forms::STAR => Wild::FinalStar(ys.len() - 1),
+            _ => Wild::Others,
+        }
     }
-    if n != 1 {
-        return 2;
-    }
-    let last = ys.len() - 1;
-    if ys[last] == forms::STAR {
-        return 1;
-    }
-    2
 }

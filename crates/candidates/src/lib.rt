@@ -8,4 +8,5 @@ pub mod fitting;
 pub mod joining;
 pub mod kinds;
 pub mod legality;
+pub mod places;
 pub mod rows;

@@ -1,5 +1,5 @@
 // One row of a room: what it holds, in one encoding for each content.
-ghost use Rattle.std.specs.Prelude.{◌≡◌, [], ◌∷◌, true, length, replicate, drop, ℕ, ◌≤◌, ◌+◌};
+ghost use Rattle.std.specs.Prelude.{◌≡◌, [], ◌∷◌, length, replicate, ◌≤◌};
 ghost use Rattle.candidates.specs.Rows.{row_numbers, text_characters, padded, text_row, number_row, is_zero};
 
 use held::limits;
@@ -18,56 +18,25 @@ pub const BEGINNING: u32 = 3;
 
 pub const NUMBER: u32 = 4;
 
+// Are the numbers of a block zero? All of them are put together, and tested once.
+fn is_zero_block(block: &[u32]) -> bool
+    ensures { result ≡ is_zero block.now }
+{
+    block.iter().fold(0, |any, x| any | *x) == 0
+}
+
+// Is all of it zero? It is looked at a whole row at a time.
+pub fn is_zero(row: &[u32]) -> bool
+    ensures { result ≡ is_zero row.now }
+{
+    row.chunks(NUMBERS).all(|block| is_zero_block(block))
+}
+
 // All of it zero.
 pub fn clear(row: &mut [u32])
     ensures { row.new ≡ replicate (length row.old) 0 }
 {
-    let mut i = 0usize;
-    while i < row.len() {
-        row[i] = 0;
-        i = i + 1;
-    }
-}
-
-// Are the numbers of a whole row from a place on zero? All of them are put together, and tested once.
-fn block_zeros(row: &[u32], at: usize) -> bool
-    requires { at + row_numbers ≤ length row.now }
-    ensures { result ≡ true → is_zero (drop (at + row_numbers) row.now) ≡ is_zero (drop at row.now) }
-{
-    let mut any = 0u32;
-    let mut j = 0;
-    while j < NUMBERS {
-        any = any | row[at + j];
-        j += 1;
-    }
-    any == 0
-}
-
-// Past some of the zeros, a whole row at a time.
-fn past_zeros(row: &[u32]) -> usize
-    ensures { is_zero (drop result row.now) ≡ is_zero row.now }
-{
-    let mut i = 0usize;
-    while NUMBERS <= row.len() - i {
-        if !block_zeros(row, i) {
-            return i;
-        }
-        i += NUMBERS;
-    }
-    i
-}
-
-// Is all of it zero?
-pub fn is_zero(row: &[u32]) -> bool
-    ensures { result ≡ is_zero row.now }
-{
-    let mut i = past_zeros(row);
-    let mut any = 0u32;
-    while i < row.len() {
-        any = any | row[i];
-        i += 1;
-    }
-    any == 0
+    row.fill(0);
 }
 
 // A mark alone.
@@ -84,14 +53,9 @@ pub fn put_text(row: &mut [u32], mark: u32, cs: &[u32])
     requires { (length row.old ≡ row_numbers) × (length cs.now ≤ text_characters) }
     ensures { row.new ≡ text_row mark cs.now }
 {
-    clear(row);
-    row[0] = mark;
+    put_mark(row, mark);
     row[1] = cs.len() as u32;
-    let mut i = 0usize;
-    while i < cs.len() {
-        row[i + 2] = cs[i];
-        i = i + 1;
-    }
+    row[2..cs.len() + 2].copy_from_slice(cs);
 }
 
 // A mark, and a number by its halves.
@@ -99,8 +63,7 @@ pub fn put_number(row: &mut [u32], mark: u32, n: u64)
     requires { length row.old ≡ row_numbers }
     ensures { row.new ≡ number_row mark n }
 {
-    clear(row);
-    row[0] = mark;
+    put_mark(row, mark);
     row[1] = (n / limits::HALF) as u32;
     row[2] = (n % limits::HALF) as u32;
 }

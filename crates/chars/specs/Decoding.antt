@@ -5,9 +5,10 @@
 --   decoded_of t n   the answer about a text t where there is room for n characters: Lone goes before Short
 --   same_text t w    is t sound, and are its characters w
 -- Differs from the RFC: nowhere on a Body.  Pinned by: Laws/Strings.
-use Rattle.std.specs.Prelude.{◌≡◌, Bool, true, false, List, [], ◌∷◌, ℕ, zero, suc, ◌+◌, ◌*◌, ◌-◌, ◌%◌, eqb, leb, ltb, length, get_or}
-use Rattle.chars.specs.declared.strings.Decoded.{Decoded}
-use Rattle.chars.specs.declared.strings.Decoded.TheVariants.{Count, Lone, Short}
+use Rattle.std.specs.Prelude.{◌≡◌, Bool, true, false, List, [], ◌∷◌, ℕ, zero, suc, ◌+◌, ◌*◌, ◌-◌, ◌%◌}
+use Rattle.std.specs.Prelude.{Result, Ok, Err, eqb, leb, ltb, length, get_or}
+use Rattle.chars.specs.declared.strings.DecodeError.{DecodeError}
+use Rattle.chars.specs.declared.strings.DecodeError.TheVariants.{Lone, Short}
 use Rattle.chars.specs.Base.{pick, within}
 use Rattle.chars.specs.Putting.{lay}
 use Rattle.chars.specs.Strings.{Unit, plain, coded, paired}
@@ -92,8 +93,8 @@ unfoldable mutual
 unfoldable pub text_of : List ℕ → Text
 text_of w = meaning (units_of w)
 
-unfoldable pub decoded_of : Text → ℕ → Decoded
-decoded_of t n = pick t.sound (pick (leb (length t.chars) n) (Count (length t.chars)) Short) Lone
+unfoldable pub decoded_of : Text → ℕ → Result ℕ DecodeError
+decoded_of t n = pick t.sound (pick (leb (length t.chars) n) (Ok (length t.chars)) (Err Short)) (Err Lone)
 
 unfoldable pub equal : List ℕ → List ℕ → Bool
 equal [] [] = true
@@ -105,6 +106,6 @@ unfoldable pub same_text : Text → List ℕ → Bool
 same_text t w = pick t.sound (equal t.chars w) false
 
 -- what the decoder answers and leaves in the lent run
-pub record Decodes (w before : List ℕ) (answer : Decoded) (after : List ℕ) : Type 0 where
+pub record Decodes (w before : List ℕ) (answer : Result ℕ DecodeError) (after : List ℕ) : Type 0 where
   pub told : answer ≡ decoded_of (text_of w) (length before)
   pub laid : after ≡ lay (text_of w).chars before

@@ -1,5 +1,6 @@
 -- Steps: what the private functions of the module `strings` ask and promise. No reader has to believe this page.
---   stepped r w      the text of w by the step r, what w begins with
+--   stepped r w      the text of w by the step r, what w begins with; None is a lone surrogate escape
+--   Reads w i r      r is the character at place i of w and the place behind it; None is a lone surrogate escape
 --   DigitAt w i r    r is the number of the digit at place i
 --   Escaped w        w begins with a reverse solidus and a u
 --   Leading w a      w begins with the byte a, which is no ASCII
@@ -9,15 +10,16 @@
 --   SameEight w v i  so are they, and v has the same at the same places
 --   Sofar w before after i n   n characters are laid over `before`, those of the bytes up to place i
 --   Match w v i j    w says v if the bytes from place i on say what v has from place j on
-use Rattle.std.specs.Prelude.{◌≡◌, List, ◌++◌, ℕ, suc, ◌+◌, ◌-◌, ◌≤◌, ◌<◌, length, get_or, drop}
+use Rattle.std.specs.Prelude.{◌≡◌, List, ◌++◌, ℕ, suc, ◌+◌, ◌-◌, ◌≤◌, ◌<◌}
+use Rattle.std.specs.Prelude.{Option, Some, None, IfSome, length, get_or, drop}
 use Rattle.chars.specs.declared.strings.Step.{Step}
-use Rattle.chars.specs.declared.strings.Step.TheVariants.{Char, Lone}
+use Rattle.chars.specs.declared.strings.Character.{Character}
 use Rattle.chars.specs.Putting.{lay}
 use Rattle.chars.specs.Decoding.{Text, lone, ahead, hex_of, text_of, same_text}
 
-abbrev pub stepped : Step → List ℕ → Text
-stepped (Char c n) w = ahead c (text_of (drop (suc n) w))
-stepped Lone w = lone
+abbrev pub stepped : Option Step → List ℕ → Text
+stepped (Some x) w = ahead x.c (text_of (drop (suc x.more) w))
+stepped None w = lone
 
 pub record DigitAt (w : List ℕ) (i r : ℕ) : Type 0 where
   pub is : r ≡ hex_of (get_or w i 0)
@@ -35,6 +37,15 @@ pub record Past (w : List ℕ) (i n r : ℕ) : Type 0 where
   pub on : i < r
   pub inside : r ≤ length w
   pub rest : drop r w ≡ drop (suc n) (drop i w)
+
+-- the text from the place of a character on
+abbrev pub behind : Option Character → List ℕ → Text
+behind (Some x) w = ahead x.c (text_of (drop x.past w))
+behind None w = lone
+
+pub record Reads (w : List ℕ) (i : ℕ) (r : Option Character) : Type 0 where
+  pub text : text_of (drop i w) ≡ behind r w
+  pub on : IfSome r (λ x. (i < x.past) × (x.past ≤ length w))
 
 -- ---- eight at once
 

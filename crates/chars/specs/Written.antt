@@ -3,11 +3,9 @@
 --   Scalar c          c is the number of a character: a Unicode scalar value
 --   written c         the bytes of one character
 --   written_text cs    the bytes of several
---   write_of bs out    the answer, and out with bs at its beginning; Short, and out, where bs does not fit
+--   write_of bs out    how many bytes bs has, and out with bs at its beginning; None, and out, where bs does not fit
 -- Differs from 01: nowhere.  Pinned by: Laws/Written.
-use Rattle.std.specs.Prelude.{List, [], ◌∷◌, ◌++◌, ℕ, ◌+◌, ◌-◌, ◌/◌, ◌%◌, ◌≤◌, eqb, leb, ltb, length}
-use Rattle.chars.specs.declared.written.Written.{Written}
-use Rattle.chars.specs.declared.written.Written.TheVariants.{Count, Short}
+use Rattle.std.specs.Prelude.{List, [], ◌∷◌, ◌++◌, ℕ, ◌+◌, ◌-◌, ◌/◌, ◌%◌, ◌≤◌, Option, eqb, leb, ltb}
 use Rattle.chars.specs.Base.{pick, In}
 use Rattle.chars.specs.Putting.{put_at}
 
@@ -43,5 +41,5 @@ unfoldable pub written_text : List ℕ → List ℕ
 written_text [] = []
 written_text (c ∷ cs) = written c ++ written_text cs
 
-unfoldable pub write_of : List ℕ → List ℕ → Written × List ℕ
-write_of bs out = (pick (leb (length bs) (length out)) (Count (length bs)) Short, (put_at out 0 bs).1)
+abbrev pub write_of : List ℕ → List ℕ → Option ℕ × List ℕ
+write_of bs out = put_at out 0 bs

@@ -2,11 +2,11 @@
 ghost use Rattle.std.specs.Prelude.{◌≡◌, false, ◌+◌, ◌≤◌, length, drop};
 ghost use Rattle.chars.specs.Lines.{line_at, unbroken};
 
-// A line ends before `end`, and the next one would begin at `next`; or no line begins at the place.
-#[derive(Clone, Copy)]
-pub enum Line {
-    Here { end: usize, next: usize },
-    None,
+// A line ends before `end`, and the next one would begin at `next`.
+#[derive(Clone, Copy, PartialEq, Eq)]
+pub struct Line {
+    pub end: usize,
+    pub next: usize,
 }
 
 // Is one of the eight bytes from a place on an LF? Without branches, so that they are tested as one.
@@ -15,10 +15,8 @@ fn lf_in_eight(s: &[u8], at: usize) -> bool
     ensures { result ≡ false → at + 8 + unbroken (drop (at + 8) s.now) ≡ at + unbroken (drop at s.now) }
 {
     let mut found = false;
-    let mut j = 0;
-    while j < 8 {
-        found = found | (s[at + j] == 10);
-        j += 1;
+    for j in 0..8 {
+        found = found | (s[at + j] == b'\n');
     }
     found
 }
@@ -29,10 +27,7 @@ fn past_eights(s: &[u8], at: usize) -> usize
     ensures { (result ≤ length s.now) × (result + unbroken (drop result s.now) ≡ at + unbroken (drop at s.now)) }
 {
     let mut i = at;
-    while 8 <= s.len() - i {
-        if lf_in_eight(s, i) {
-            return i;
-        }
+    while 8 <= s.len() - i && !lf_in_eight(s, i) {
         i += 8;
     }
     i
@@ -43,29 +38,21 @@ fn line_end(s: &[u8], at: usize) -> usize
     requires { at ≤ length s.now }
     ensures { result ≡ at + unbroken (drop at s.now) }
 {
-    let mut i = past_eights(s, at);
-    while i < s.len() {
-        if s[i] == 10 {
-            return i;
-        }
-        i += 1;
+    let from = past_eights(s, at);
+    match s[from..].iter().position(|b| *b == b'\n') {
+        Some(before) => from + before,
+        None => s.len(),
     }
-    i
 }
 
-// The line that begins at a place.
-pub fn line_at(s: &[u8], at: usize) -> Line
+// The line that begins at a place, if one does.
+pub fn line_at(s: &[u8], at: usize) -> Option<Line>
     ensures { result ≡ line_at s.now at }
 {
     if s.len() <= at {
-        return Line::None;
+        return None;
     }
-    let e = line_end(s, at);
-    if e < s.len() {
-        return Line::Here {
-            end: e,
-            next: e + 1,
-        };
-    }
-    Line::Here { end: e, next: e }
+    let end = line_end(s, at);
+    let next = if end < s.len() { end + 1 } else { end };
+    Some(Line { end, next })
 }

@@ -8,8 +8,6 @@ use Rattle.decision.specs.Decision.{decide}
 use Rattle.policy.specs.Reading.{Outcome, refused, known, policy_rules, record_rules, Says}
 use Rattle.policy.specs.declared.refusals.Refusal.{Refusal}
 use Rattle.decision.specs.declared.deciding.Decision.{Decision}
-use Rattle.decide.specs.declared.operations.Answer.{Answer}
-use Rattle.decide.specs.declared.operations.Answer.TheVariants as A
 
 pub data Decides (policy asked : List ℕ) : Outcome Decision → Type 0 where
   policy_refused : {f : Refusal} → Says policy_rules policy (refused f) → Decides policy asked (refused f)
@@ -17,10 +15,6 @@ pub data Decides (policy asked : List ℕ) : Outcome Decision → Type 0 where
       → Decides policy asked (refused f)
   decided : {p : Policy} {r : Request} → Says policy_rules policy (known p) → Says record_rules asked (known r)
       → Decides policy asked (known (decide p r))
-
-abbrev pub told_answer : Answer → Outcome Decision
-told_answer (A.Decided d) = known d
-told_answer (A.Refused f) = refused f
 
 -- ---- the record, under a policy that was read
 

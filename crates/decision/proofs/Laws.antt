@@ -2,7 +2,6 @@ pub mod Matching
 pub mod MatchingPlaces
 pub mod MatchingSteps
 pub mod MatchingTrials
-pub mod Deciding
 pub mod DecidingMeets
 pub mod DecidingContexts
 pub mod DecidingRows

@@ -8,8 +8,8 @@
 use Rattle.std.specs.Prelude.{◌≡◌, Bool, true, false, List, [], ◌∷◌, ℕ, ◌+◌, ◌≤◌, ◌<◌, eqb, ltb, length, get_or}
 use Rattle.chars.specs.Base.{pick}
 use Rattle.decision.specs.declared.matching.Place.{Place}
-use Rattle.decision.specs.declared.matching.Move.{Move}
-use Rattle.decision.specs.declared.matching.Move.TheVariants.{Go, Stop}
+use Rattle.std.specs.declared.ops.ControlFlow.{ControlFlow}
+use Rattle.std.specs.declared.ops.ControlFlow.TheVariants.{Continue, Break}
 use Rattle.syntax.specs.Policy.{star, any}
 use Rattle.syntax.specs.Forms.{both, either}
 
@@ -63,23 +63,23 @@ abbrev pub again : Place → Place
 again at = record { symbol = at.behind; character = at.tried + 1; behind = at.behind; tried = at.tried + 1 }
 
 -- no match here: the last star is tried again; without a star nothing is left to try
-unfoldable pub retry : Place → Move
-retry at = pick (eqb at.behind 0) (Stop false) (Go (again at))
+unfoldable pub retry : Place → ControlFlow Bool Place
+retry at = pick (eqb at.behind 0) (Break false) (Continue (again at))
 
 -- behind the last symbol: the text is over too; or the last symbol is a star, which takes what is left of it
-unfoldable pub at_end : List ℕ → Place → Move
+unfoldable pub at_end : List ℕ → Place → ControlFlow Bool Place
 at_end t at =
-    pick (eqb at.character (length t)) (Stop true)
-    (pick (eqb at.behind at.symbol) (Stop (ltb 0 at.symbol)) (retry at))
+    pick (eqb at.character (length t)) (Break true)
+    (pick (eqb at.behind at.symbol) (Break (ltb 0 at.symbol)) (retry at))
 
 -- at the symbol x: a text that is over has no character for a symbol, and only a star needs none
-unfoldable pub at_symbol : ℕ → List ℕ → Place → Move
+unfoldable pub at_symbol : ℕ → List ℕ → Place → ControlFlow Bool Place
 at_symbol x t at =
-    pick (eqb x star) (Go (past_star at))
-    (pick (eqb at.character (length t)) (Stop false)
-    (pick (stands x (get_or t at.character 0)) (Go (past_both at)) (retry at)))
+    pick (eqb x star) (Continue (past_star at))
+    (pick (eqb at.character (length t)) (Break false)
+    (pick (stands x (get_or t at.character 0)) (Continue (past_both at)) (retry at)))
 
-unfoldable pub next : List ℕ → List ℕ → Place → Move
+unfoldable pub next : List ℕ → List ℕ → Place → ControlFlow Bool Place
 next e t at = pick (eqb at.symbol (length e)) (at_end t at) (at_symbol (get_or e at.symbol 0) t at)
 
 -- the places are inside, or at the ends

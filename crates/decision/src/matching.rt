@@ -3,6 +3,7 @@
 ghost use Rattle.std.specs.Prelude.{◌≡◌, ◌+◌, ◌<◌, ◌^◌};
 ghost use Rattle.decision.specs.Matching.{stands, matches, retry, next, Inside, Alike};
 
+use std::ops::ControlFlow;
 use syntax::forms;
 
 // A symbol of the entry and a character of the text to be looked at, both by their places, the ends among them; the
@@ -15,32 +16,22 @@ pub struct Place {
     pub tried: usize,
 }
 
-// Where to look next; or the answer.
-#[derive(Clone, Copy)]
-pub enum Move {
-    Go(Place),
-    Stop(bool),
-}
-
 // Does a symbol that is no star stand for a character?
 fn stands(x: u32, c: u32) -> bool
     ensures { result ≡ stands x c }
 {
-    if x == forms::ANY {
-        return true;
-    }
-    x == c
+    x == forms::ANY || x == c
 }
 
 // The last star takes one character more; without a star nothing is left to try.
-fn retry(at: Place) -> Move
+fn retry(at: Place) -> ControlFlow<bool, Place>
     requires { at.tried + 1 < 2 ^ 64 }
     ensures { result ≡ retry at }
 {
     if at.behind == 0 {
-        return Move::Stop(false);
+        return ControlFlow::Break(false);
     }
-    Move::Go(Place {
+    ControlFlow::Continue(Place {
         symbol: at.behind,
         character: at.tried + 1,
         behind: at.behind,
@@ -48,8 +39,8 @@ fn retry(at: Place) -> Move
     })
 }
 
-// One look at one symbol and one character.
-pub fn step(entry: &[u32], text: &[u32], at: Place) -> Move
+// One look at one symbol and one character: where to look next; or the answer.
+pub fn step(entry: &[u32], text: &[u32], at: Place) -> ControlFlow<bool, Place>
     requires { Inside entry.now text.now at }
     ensures { result ≡ next entry.now text.now at }
 {
@@ -57,16 +48,16 @@ pub fn step(entry: &[u32], text: &[u32], at: Place) -> Move
     let j = at.character;
     if i == entry.len() {
         if j == text.len() {
-            return Move::Stop(true);
+            return ControlFlow::Break(true);
         }
         if at.behind == i {
-            return Move::Stop(0 < i);
+            return ControlFlow::Break(0 < i);
         }
         return retry(at);
     }
     let x = entry[i];
     if x == forms::STAR {
-        return Move::Go(Place {
+        return ControlFlow::Continue(Place {
             symbol: i + 1,
             character: j,
             behind: i + 1,
@@ -74,16 +65,15 @@ pub fn step(entry: &[u32], text: &[u32], at: Place) -> Move
         });
     }
     if j == text.len() {
-        return Move::Stop(false);
+        return ControlFlow::Break(false);
     }
     if !stands(x, text[j]) {
         return retry(at);
     }
-    Move::Go(Place {
+    ControlFlow::Continue(Place {
         symbol: i + 1,
         character: j + 1,
-        behind: at.behind,
-        tried: at.tried,
+        ..at
     })
 }
 
@@ -92,21 +82,11 @@ pub fn step(entry: &[u32], text: &[u32], at: Place) -> Move
 fn alike(entry: &[u32], text: &[u32]) -> usize
     ensures { Alike entry.now text.now result }
 {
-    let mut i = 0usize;
-    while i < entry.len() {
-        if i == text.len() {
-            return i;
-        }
-        let x = entry[i];
-        if x != text[i] {
-            return i;
-        }
-        if x == forms::STAR {
-            return i;
-        }
-        i += 1;
-    }
-    i
+    entry
+        .iter()
+        .zip(text)
+        .take_while(|(x, c)| *x == *c && **x != forms::STAR)
+        .count()
 }
 
 pub fn matches(entry: &[u32], text: &[u32]) -> bool
@@ -121,12 +101,8 @@ pub fn matches(entry: &[u32], text: &[u32]) -> bool
     };
     loop {
         match step(entry, text, at) {
-            Move::Go(to) => {
-                at = to;
-            }
-            Move::Stop(found) => {
-                return found;
-            }
+            ControlFlow::Continue(to) => at = to,
+            ControlFlow::Break(found) => return found,
         }
     }
 }

@@ -1,5 +1,5 @@
 // Walks over a held policy: where its parts end, how many entries they have, whether a limit is passed.
-ghost use Rattle.std.specs.Prelude.{◌≡◌, List, ℕ, length};
+ghost use Rattle.std.specs.Prelude.{◌≡◌, false, ◌||◌, ◌+◌, ◌≤◌, List, ℕ, length};
 ghost use Rattle.syntax.specs.Policy.{Value, Row, Statement, Policy};
 ghost use Rattle.syntax.specs.Members.{has_like};
 ghost use Rattle.syntax.specs.PolicyLayout.{same_row, same_sid};
@@ -17,6 +17,31 @@ pub struct Seen {
     pub past: usize,
     pub entries: usize,
     pub over: bool,
+}
+
+impl Seen {
+    // Nothing is seen before a place.
+    fn before(past: usize) -> Seen
+        ensures { result ≡ record { past = past; entries = 0; over = false } }
+    {
+        Seen {
+            past,
+            entries: 0,
+            over: false,
+        }
+    }
+
+    // What was seen, and what was seen next.
+    fn then(self, next: Seen) -> Seen
+        requires { self.entries + next.entries ≤ usize.MAX }
+        ensures { result ≡ record { past = next.past; entries = self.entries + next.entries; over = self.over || next.over } }
+    {
+        Seen {
+            past: next.past,
+            entries: self.entries + next.entries,
+            over: self.over | next.over,
+        }
+    }
 }
 
 fn value(run: &[u32], at: usize) -> Seen
@@ -42,20 +67,11 @@ fn values(run: &[u32], at: usize, n: usize) -> Seen
     requires { LyingMany held_value run.now at n }
     ensures { (xs : List Value) → n ≡ length xs → Lies run.now at (held_each held_value xs) → Passes at (held_each held_value xs) (length xs) (any_of long_value xs) result }
 {
-    let mut p = at;
-    let mut over = false;
-    let mut i = 0usize;
-    while i < n {
-        let v = value(run, p);
-        p = v.past;
-        over = over | v.over;
-        i = i + 1;
+    let mut seen = Seen::before(at);
+    for _ in 0..n {
+        seen = seen.then(value(run, seen.past));
     }
-    Seen {
-        past: p,
-        entries: n,
-        over: over,
-    }
+    seen
 }
 
 // A list behind its number.
@@ -74,9 +90,8 @@ pub fn row(run: &[u32], at: usize) -> Seen
     let n = run[at + 1] as usize;
     let l = list(run, at + 2 + n);
     Seen {
-        past: l.past,
-        entries: l.entries,
         over: (n > limits::KEY) | l.over,
+        ..l
     }
 }
 
@@ -84,22 +99,11 @@ fn rows_from(run: &[u32], at: usize, n: usize) -> Seen
     requires { LyingMany held_row run.now at n }
     ensures { (xs : List Row) → n ≡ length xs → Lies run.now at (held_each held_row xs) → Passes at (held_each held_row xs) (row_entries xs) (any_of row_over xs) result }
 {
-    let mut p = at;
-    let mut entries = 0usize;
-    let mut over = false;
-    let mut i = 0usize;
-    while i < n {
-        let q = row(run, p);
-        p = q.past;
-        entries = entries + q.entries;
-        over = over | q.over;
-        i = i + 1;
+    let mut seen = Seen::before(at);
+    for _ in 0..n {
+        seen = seen.then(row(run, seen.past));
     }
-    Seen {
-        past: p,
-        entries: entries,
-        over: over,
-    }
+    seen
 }
 
 pub fn rows(run: &[u32], at: usize) -> Seen
@@ -109,9 +113,8 @@ pub fn rows(run: &[u32], at: usize) -> Seen
     let n = run[at] as usize;
     let l = rows_from(run, at + 1, n);
     Seen {
-        past: l.past,
-        entries: l.entries,
         over: (n > limits::ROWS) | l.over,
+        ..l
     }
 }
 
@@ -136,18 +139,11 @@ pub fn over_limit(run: &[u32]) -> bool
     ensures { (p : Policy) → Lies run.now 0 (held p) → result ≡ over_limit p }
 {
     let n = run[0] as usize;
-    let mut p = 1usize;
-    let mut entries = 0usize;
-    let mut over = false;
-    let mut i = 0usize;
-    while i < n {
-        let q = statement(run, p);
-        p = q.past;
-        entries = entries + q.entries;
-        over = over | q.over;
-        i = i + 1;
+    let mut seen = Seen::before(1);
+    for _ in 0..n {
+        seen = seen.then(statement(run, seen.past));
     }
-    (n > limits::STATEMENTS) | ((entries > limits::ENTRIES) | over)
+    (n > limits::STATEMENTS) | ((seen.entries > limits::ENTRIES) | seen.over)
 }
 
 // Have the rows at two places the same key?
@@ -183,13 +179,11 @@ pub fn has_key(run: &[u32], at: usize, n: usize, p: usize) -> bool
     ensures { (xs : List Row) (x : Row) → n ≡ length xs → Lies run.now at (held_each held_row xs) → Lies run.now p (held_row x) → result ≡ has_like same_row x xs }
 {
     let mut q = at;
-    let mut i = 0usize;
-    while i < n {
+    for _ in 0..n {
         if same_key_at(run, p, q) {
             return true;
         }
         q = row(run, q).past;
-        i = i + 1;
     }
     false
 }
@@ -200,13 +194,11 @@ pub fn has_sid(run: &[u32], at: usize, n: usize, p: usize) -> bool
     ensures { (xs : List Statement) (x : Statement) → n ≡ length xs → Lies run.now at (held_each held_statement xs) → Lies run.now p (held_statement x) → result ≡ has_like same_sid x xs }
 {
     let mut q = at;
-    let mut i = 0usize;
-    while i < n {
+    for _ in 0..n {
         if same_sid_at(run, p, q) {
             return true;
         }
         q = statement(run, q).past;
-        i = i + 1;
     }
     false
 }
@@ -216,12 +208,10 @@ pub fn has_sid_at(run: &[u32], places: [usize; 64], n: usize, p: usize) -> bool
     requires { (PlacedMany held_statement run.now places n) × (Lying held_statement run.now p) }
     ensures { (e : ℕ) (xs : List Statement) (x : Statement) → Placed held_statement run.now places n e xs → Lies run.now p (held_statement x) → result ≡ has_like same_sid x xs }
 {
-    let mut i = 0usize;
-    while i < n {
+    for i in 0..n {
         if same_sid_at(run, p, places[i]) {
             return true;
         }
-        i = i + 1;
     }
     false
 }

@@ -1,17 +1,97 @@
-// Lines of any length from pieces of the input, in constant room. The policy is held, and its room stays the policy's.
+// Lines of any length from pieces of the input, in constant room.
 ghost use Rattle.std.specs.Prelude.{◌≤◌, length, IfOk};
-ghost use Rattle.refine.specs.Sound.{Kept};
+ghost use Rattle.refine.specs.Sound.{HeldSound};
 
-use crate::printing;
+use crate::feeding::Feeder;
 use chars::lines::Line;
 use std::io;
 use std::io::Read;
 
-// The bytes of the line that is not ended yet, as far as they are kept, and its number.
-#[derive(Clone, Copy)]
-pub struct Reached {
-    pub have: usize,
-    pub number: u64,
+// One byte more than a record may have is enough to refuse it.
+const LINE: usize = 8193;
+
+// The bytes of a line that is not ended yet, as far as they are kept.
+#[derive(Drop)]
+struct Partial {
+    bytes: [u8; LINE],
+    have: usize,
+    ghost within: { have ≤ 8193 },
+}
+
+impl Partial {
+    fn new() -> Partial {
+        Partial {
+            bytes: [0; LINE],
+            have: 0,
+        }
+    }
+
+    fn kept(&self) -> &[u8] {
+        &self.bytes[..self.have]
+    }
+
+    // More of the line, as far as there is room.
+    fn keep(&mut self, part: &[u8]) {
+        let n = part.len().min(LINE - self.have);
+        let end = self.have + n;
+        self.bytes[self.have..end].copy_from_slice(&part[..n]);
+        self.have = end;
+    }
+}
+
+// What a log's lines are fed to, and the line that is not ended yet, with its number.
+#[derive(Drop)]
+pub struct Log<'a> {
+    feeder: Feeder<'a>,
+    line: Partial,
+    number: u64,
+}
+
+impl<'a> Log<'a> {
+    pub fn new(run: &'a [u32]) -> Log<'a>
+        requires { HeldSound run.now }
+    {
+        Log {
+            feeder: Feeder::new(run),
+            line: Partial::new(),
+            number: 1,
+        }
+    }
+
+    // The last part of a line.
+    fn end_line(&mut self, rt: &impl Print, part: &[u8]) -> io::Result<()> {
+        if self.line.have == 0 {
+            self.feeder.feed(rt, part, self.number)?;
+        } else {
+            self.line.keep(part);
+            self.feeder.feed(rt, self.line.kept(), self.number)?;
+        }
+        self.line.have = 0;
+        self.number = self.number.saturating_add(1);
+        Ok(())
+    }
+
+    // The lines of a piece of the input; the last is kept if it is not ended there.
+    pub fn feed(&mut self, rt: &impl Print, piece: &[u8]) -> io::Result<()> {
+        let mut at = 0usize;
+        loop {
+            let Some(Line { end, next }) = chars::lines::line_at(piece, at) else {
+                return Ok(());
+            };
+            if next == end {
+                self.line.keep(&piece[at..end]);
+                return Ok(());
+            }
+            self.end_line(rt, &piece[at..end])?;
+            at = next;
+        }
+    }
+
+    // The last line, if the input does not end it, and then the result.
+    pub fn finish(&mut self, rt: &impl Print) -> io::Result<()> {
+        self.feeder.feed(rt, self.line.kept(), self.number)?;
+        self.feeder.finish(rt)
+    }
 }
 
 // Reads until the run is full or the input ends, and tells how many bytes it has of it.
@@ -27,103 +107,4 @@ pub fn read_full(input: &mut impl Read, out: &mut [u8]) -> io::Result<usize>
         n += got;
     }
     Ok(n)
-}
-
-// The number of the next line.
-fn after(n: u64) -> u64 {
-    n.saturating_add(1)
-}
-
-// A record; empty lines are skipped.
-fn feed_line(
-    rt: &impl Print,
-    run: &[u32],
-    line: &[u8],
-    number: u64,
-    request: &mut [u32],
-    room: &mut [u32],
-) -> io::Result<()>
-    requires { Kept run.now request.old room.old }
-    ensures { Kept run.now request.new room.new }
-{
-    if line.len() == 0 {
-        return Ok(());
-    }
-    let a = refine::operations::feed_record(run, line, request, room);
-    match a {
-        decide::operations::Answer::Decided(_) => Ok(()),
-        decide::operations::Answer::Refused(f) => printing::say_line(rt, number, f),
-    }
-}
-
-// A line that is ended: what was kept of it, and the last part.
-fn feed_ended(
-    rt: &impl Print,
-    run: &[u32],
-    line: &mut [u8],
-    at: Reached,
-    part: &[u8],
-    request: &mut [u32],
-    room: &mut [u32],
-) -> io::Result<()>
-    requires { Kept run.now request.old room.old }
-    ensures { Kept run.now request.new room.new }
-{
-    if at.have == 0 {
-        return feed_line(rt, run, part, at.number, request, room);
-    }
-    let n = printing::add(line, at.have, part);
-    feed_line(rt, run, &line[..n], at.number, request, room)
-}
-
-// The lines of a piece of the input; the last is kept if it is not ended there.
-pub fn feed_lines(
-    rt: &impl Print,
-    run: &[u32],
-    chunk: &[u8],
-    line: &mut [u8],
-    from: Reached,
-    request: &mut [u32],
-    room: &mut [u32],
-) -> io::Result<Reached>
-    requires { Kept run.now request.old room.old }
-    ensures { Kept run.now request.new room.new }
-{
-    let mut at = 0usize;
-    let mut have = from.have;
-    let mut number = from.number;
-    loop {
-        let l = chars::lines::line_at(chunk, at);
-        let Line::Here { end, next } = l else {
-            return Ok(Reached { have, number });
-        };
-        if next == end {
-            let kept = printing::add(line, have, &chunk[at..end]);
-            return Ok(Reached { have: kept, number });
-        }
-        let part = Reached { have, number };
-        feed_ended(rt, run, line, part, &chunk[at..end], request, room)?;
-        have = 0;
-        number = after(number);
-        at = next;
-    }
-}
-
-// The last line, if the input does not end it.
-pub fn feed_last(
-    rt: &impl Print,
-    run: &[u32],
-    line: &[u8],
-    at: Reached,
-    request: &mut [u32],
-    room: &mut [u32],
-) -> io::Result<()>
-    requires { Kept run.now request.old room.old }
-    ensures { Kept run.now request.new room.new }
-{
-    let n = at.have;
-    if n <= line.len() {
-        feed_line(rt, run, &line[..n], at.number, request, room)?;
-    }
-    Ok(())
 }

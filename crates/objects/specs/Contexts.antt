@@ -3,7 +3,8 @@
 --   Slots, context_from    its members by name, and the entry that they are
 --   Sorted run m at x     where the values of the members x lie
 --   Texting, Values ..    a text is made a value of its type
-use Rattle.std.specs.Prelude.{◌≡◌, List, [], ◌∷◌, ℕ, zero, suc, ◌+◌, ◌≤◌, length, get_or}
+use Rattle.std.specs.Prelude.{◌≡◌, List, [], ◌∷◌, ℕ, zero, suc, ◌+◌, ◌≤◌, length, eqb, Option, Some, None}
+use Rattle.chars.specs.Base.{pick}
 use Rattle.syntax.specs.Limits.{run_numbers}
 use Rattle.syntax.specs.Policy.{Context}
 use Rattle.syntax.specs.Forms.{Reading, read}
@@ -12,16 +13,19 @@ use Rattle.syntax.specs.Members.{then, Slot, required, characters_of}
 use Rattle.syntax.specs.RecordLayout.{only_one, key_name_of, typed_of}
 use Rattle.held.specs.Held.{held_text, held_value}
 use Rattle.parts.specs.Holding.{Kept}
-use Rattle.parts.specs.Requests.{type_named, typed_as}
+use Rattle.parts.specs.Requests.{typed_as}
+use Rattle.parts.specs.declared.words.ValueType.{ValueType}
+use Rattle.parts.specs.declared.words.ValueType.TheVariants as V
+use Rattle.objects.specs.Telling.{type_told}
 use Rattle.objects.specs.Spans.{from_of, to_of, behind}
 use Rattle.objects.specs.Gathering.{How, laid, told, Kinded, SlotFound}
 use Rattle.objects.specs.Filling.{numbers, Ready}
 
 abbrev pub context_how : ℕ → How
-context_how zero = told type_named
+context_how zero = told type_told
 context_how (suc zero) = laid (numbers held_text key_name_of)
 context_how (suc (suc zero)) = laid (numbers held_text (only_one characters_of))
-context_how (suc (suc (suc k))) = told type_named
+context_how (suc (suc (suc k))) = told type_told
 
 abbrev pub contexts : Kinded
 contexts =
@@ -66,8 +70,12 @@ pub record Texting (run m : List ℕ) : Type 0 where
   pub said : Reading (List ℕ)
   pub text : Ready held_text said run m 2
 
+-- the type that a number stands for
+abbrev pub type_from : ℕ → ValueType
+type_from k = pick (eqb k 1) V.Text V.Number
+
 -- it is the value of type k that the text says; the part of turn 1 is where it was
-pub record Valued (run run' m m' : List ℕ) (k : ℕ) (x : Reading (List ℕ)) : Type 0 where
+pub record Valued (run run' m m' : List ℕ) (k : ValueType) (x : Reading (List ℕ)) : Type 0 where
   pub kept : Kept run run' (behind m)
   pub more : behind m ≤ behind m'
   pub high : behind m' ≤ length run'
@@ -76,7 +84,7 @@ pub record Valued (run run' m m' : List ℕ) (k : ℕ) (x : Reading (List ℕ)) 
   pub value : Ready held_value (then x (typed_as k)) run' m' 2
 
 -- or it has not the form, or there is no room
-pub record Values (run run' m m' : List ℕ) (k : ℕ) : Type 0 where
-  pub size : length run' ≡ length run
-  pub spans : length m' ≡ 12
-  pub valued : (get_or m' 0 0 ≡ 0 → ⊥) → (x : Reading (List ℕ)) → Ready held_text x run m 2 → Valued run run' m m' k x
+abbrev pub Values : List ℕ → List ℕ → List ℕ → ValueType → Option (List ℕ) → Type 0
+Values run run' m k (Some m') =
+    (length m' ≡ 12) × ((x : Reading (List ℕ)) → Ready held_text x run m 2 → Valued run run' m m' k x)
+Values run run' m k None = length run' ≡ length run

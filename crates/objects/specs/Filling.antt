@@ -1,7 +1,8 @@
 -- Filling: parts that are known to lie in a run, and what stands for a member that is absent.
 --   Ready h x run m k     what x reads lies in the run, as h holds it, as the part of turn k
---   Filled xs ..          the part of turn k is there, or the numbers xs stand for an absent one; or there is no room
-use Rattle.std.specs.Prelude.{◌≡◌, List, ℕ, ◌+◌, ◌≤◌, length, get_or, set}
+--   Filled xs ..          the part of turn k is there, or the numbers xs stand for an absent one
+--   Fills xs ..           likewise; or there is no room
+use Rattle.std.specs.Prelude.{◌≡◌, List, ℕ, ◌+◌, ◌≤◌, length, set, Option, Some, None}
 use Rattle.text.specs.Json.{Json}
 use Rattle.syntax.specs.Forms.{Reading, read}
 use Rattle.syntax.specs.Members.{then}
@@ -27,4 +28,7 @@ pub data Filled (xs run run' m m' : List ℕ) (k : ℕ) : Type 0 where
   absent : {from past : ℕ} → to_of m k ≡ 0 → m' ≡ noted m k from (from + length xs) past → behind m ≤ past
       → from + length xs ≤ past → past ≤ length run' → Extends run' run' from xs (from + length xs)
       → Kept run run' (behind m) → Filled xs run run' m m' k
-  no_room : get_or m' 0 0 ≡ 0 → length run' ≡ length run → length m' ≡ length m → Filled xs run run' m m' k
+
+abbrev pub Fills : List ℕ → List ℕ → List ℕ → List ℕ → ℕ → Option (List ℕ) → Type 0
+Fills xs run run' m k (Some m') = Filled xs run run' m m' k
+Fills xs run run' m k None = length run' ≡ length run

@@ -4,16 +4,15 @@
 --   within o, owing x      what is owed inside the value of Statement, and in the whole text
 --   Stuck f n xs b s v i   a value of at most n levels at v comes to owe xs at i, and if b, f reads nothing of it
 --   Came d s first i       members passed, from the first name of an object up to another
---   in_list, by_itself ..    where a list was given up, if a statement of it was, and so on
+--   inside x o             where a policy was given up, if a statement was given up at x and o is owed there
 --   States, Counts, Walks, Gets, Finds ..   the answers
-use Rattle.std.specs.Prelude.{◌≡◌, false, List, [], ◌∷◌, ◌++◌, ℕ, suc, ◌≤◌, length, get_or}
+use Rattle.std.specs.Prelude.{◌≡◌, false, List, [], ◌∷◌, ◌++◌, ℕ, suc, ◌≤◌, length, Result, Ok, Err}
 use Rattle.chars.specs.Base.{At}
 use Rattle.text.specs.Json.{Json, Members, JsonText, levels, members, Reads}
 use Rattle.text.specs.Contents.{Stands}
 use Rattle.text.specs.Machine.{Item, ws, value, next, before, inner, from, verdict}
 use Rattle.text.specs.Reading.{Leads}
 use Rattle.text.specs.declared.scan.Shape.TheVariants as S
-use Rattle.text.specs.declared.verdict.Verdict.TheVariants.{Whole}
 use Rattle.syntax.specs.Policy.{Statement}
 use Rattle.syntax.specs.Forms.{Reading, wrong}
 use Rattle.syntax.specs.Members.{then, Slot, many, one, slot, known, one_or_more, differing}
@@ -23,21 +22,15 @@ use Rattle.parts.specs.Unfit.{Bad}
 use Rattle.straight.specs.Marks.{Opened, Closed}
 use Rattle.straight.specs.Taking.{Taken, TakenSeveral}
 use Rattle.objects.specs.Telling.{TakenText}
-use Rattle.objects.specs.Gathering.{Kinded, Gathers}
-use Rattle.objects.specs.declared.leaving.Stated.{Stated}
-use Rattle.objects.specs.declared.leaving.Stated.TheVariants as T
+use Rattle.objects.specs.Gathering.{Kinded, Gathered}
+use Rattle.parts.specs.declared.holding.Ended.{Ended}
+use Rattle.parts.specs.declared.holding.Listed.{Listed}
+use Rattle.objects.specs.declared.leaving.Lost.{Lost}
+use Rattle.objects.specs.declared.leaving.Lost.TheVariants as L
 use Rattle.objects.specs.declared.leaving.Owed.{Owed}
 use Rattle.objects.specs.declared.leaving.Owed.TheVariants as O
-use Rattle.objects.specs.declared.leaving.Counted.{Counted}
-use Rattle.objects.specs.declared.leaving.Counted.TheVariants as C
-use Rattle.objects.specs.declared.leaving.Walked.{Walked}
-use Rattle.objects.specs.declared.leaving.Walked.TheVariants as W
 use Rattle.objects.specs.declared.leaving.Place.{Place}
 use Rattle.objects.specs.declared.leaving.Place.TheVariants as P
-use Rattle.objects.specs.declared.leaving.Gone.{Gone}
-use Rattle.objects.specs.declared.leaving.Gone.TheVariants as G
-use Rattle.objects.specs.declared.leaving.Found.{Found}
-use Rattle.objects.specs.declared.leaving.Found.TheVariants as F
 
 -- ---- what is owed
 
@@ -97,32 +90,16 @@ pub record Came (d : ℕ) (s : List ℕ) (first i : ℕ) : Type 0 where
   pub wants : (n : List ℕ) (us : Members) (t : Json) → Wants t (slot n us) → Wants t (slot n (put us))
   pub leads : (n : ℕ) → d ≤ n → Leads s (named n) first (named n) i
 
--- members gathered; or those before the place at which they were given up
-pub record GathersOr (l : Kinded) (s run run' : List ℕ) (i at : ℕ) (m : List ℕ) : Type 0 where
-  pub gathers : Gathers l s run run' i at m
-  pub came : get_or m 0 0 ≡ 0 → Came l.levels s i (get_or m 1 0)
+-- members gathered; or those before the place of a name, at which they were given up
+abbrev pub Gathers : Kinded → List ℕ → List ℕ → List ℕ → ℕ → ℕ → Result (List ℕ) ℕ → Type 0
+Gathers l s run run' i at (Ok m) = Gathered l s run run' i at m
+Gathers l s run run' i at (Err c) = (length run' ≡ length run) × Came l.levels s i c
 
 -- ---- given up inside, given up outside
 
-abbrev pub in_list : Stated → Counted
-in_list (T.Past p e) = C.Wrong
-in_list (T.Left i) = C.Left i O.Listed
-in_list T.Wrong = C.Wrong
-
-abbrev pub by_itself : Stated → Walked
-by_itself (T.Past p e) = W.Wrong
-by_itself (T.Left i) = W.Left i O.Alone
-by_itself T.Wrong = W.Wrong
-
-abbrev pub in_value : Counted → Walked
-in_value (C.Several p e k) = W.Wrong
-in_value (C.Left i o) = W.Left i o
-in_value C.Wrong = W.Wrong
-
-abbrev pub in_policy : Walked → Gone
-in_policy (W.Past p e) = G.Left P.Text
-in_policy (W.Left i o) = G.Left (P.Inside i o)
-in_policy W.Wrong = G.Left P.Text
+abbrev pub inside : Lost → Owed → Place
+inside (L.At i) o = P.Inside i o
+inside L.Whole o = P.Text
 
 -- ---- answers
 
@@ -132,53 +109,55 @@ pub record Begins (s : List ℕ) (v i : ℕ) : Type 0 where
   pub quote : At s i 34
 
 -- the list ends behind a statement, or something else stands there
-abbrev pub Closes : List ℕ → ℕ → ℕ → ℕ → Counted → Type 0
-Closes s end p n (C.Several q e k) = (q ≡ p) × ((k ≡ n) × Closed s 93 end e)
-Closes s end p n (C.Left i o) = (i ≡ end) × (o ≡ O.Next)
-Closes s end p n C.Wrong = ⊥
+abbrev pub Closes : List ℕ → ℕ → ℕ → ℕ → Result Listed Place → Type 0
+Closes s end p n (Ok r) = (r.past ≡ p) × ((r.count ≡ n) × Closed s 93 end r.end)
+Closes s end p n (Err x) = x ≡ P.Inside end O.Next
 
 -- the policy ends at a place, or is given up behind the member that ends at j
-abbrev pub Ceases : List ℕ → ℕ → ℕ → ℕ → Gone → Type 0
-Ceases s j i p (G.Past q e) = (q ≡ p) × Closed s 125 i e
-Ceases s j i p (G.Left x) = x ≡ P.Behind j
+abbrev pub Ceases : List ℕ → ℕ → ℕ → ℕ → Result Ended Place → Type 0
+Ceases s j i p (Ok r) = (r.past ≡ p) × Closed s 125 i r.end
+Ceases s j i p (Err x) = x ≡ P.Behind j
 
-abbrev pub States : List ℕ → List ℕ → List ℕ → ℕ → ℕ → Stated → Type 0
-States s run run' v at (T.Past p e) = Taken held_statement statement_of 4 s run run' v at p e
-States s run run' v at (T.Left i) =
+abbrev pub States : List ℕ → List ℕ → List ℕ → ℕ → ℕ → Result Ended Lost → Type 0
+States s run run' v at (Ok r) = Taken held_statement statement_of 4 s run run' v at r.past r.end
+States s run run' v at (Err (L.At i)) =
     (length run' ≡ length run) × ((At s v 123) × ((n : ℕ) → 3 ≤ n
     → Stuck statement_of (suc n) (named n) (Bad s i) s v i))
-States s run run' v at T.Wrong = length run' ≡ length run
+States s run run' v at (Err L.Whole) = length run' ≡ length run
 
 -- a list of statements of which no two have the same Sid
 abbrev pub policy_from : Json → Reading (List Statement)
 policy_from t = then (one_or_more statement_of t) (differing same_sid)
 
-abbrev pub Counts : List ℕ → List ℕ → List ℕ → ℕ → ℕ → Counted → Type 0
-Counts s run run' v at (C.Several p e k) = TakenSeveral held_statement policy_from 5 s run run' v at p e k
-Counts s run run' v at (C.Left i o) =
-    (length run' ≡ length run) × Stuck policy_from 15 (within o) (Blame o s i) s v i
-Counts s run run' v at C.Wrong = length run' ≡ length run
+-- the value of Statement at v is given up as a whole, or inside it
+abbrev pub StuckAt : List ℕ → ℕ → Place → Type 0
+StuckAt s v P.Text = Unit {0}
+StuckAt s v (P.Behind i) = ⊥
+StuckAt s v (P.Inside i o) = Stuck policy_from 15 (within o) (Blame o s i) s v i
 
-abbrev pub Walks : List ℕ → List ℕ → List ℕ → ℕ → Walked → Type 0
-Walks s run run' v (W.Past p e) = Taken held policy_from 5 s run run' v 0 p e
-Walks s run run' v (W.Left i o) = (length run' ≡ length run) × Stuck policy_from 15 (within o) (Blame o s i) s v i
-Walks s run run' v W.Wrong = length run' ≡ length run
+abbrev pub Counts : List ℕ → List ℕ → List ℕ → ℕ → ℕ → Result Listed Place → Type 0
+Counts s run run' v at (Ok r) = TakenSeveral held_statement policy_from 5 s run run' v at r.past r.end r.count
+Counts s run run' v at (Err x) = (length run' ≡ length run) × StuckAt s v x
+
+abbrev pub Walks : List ℕ → List ℕ → List ℕ → ℕ → Result Ended Place → Type 0
+Walks s run run' v (Ok r) = Taken held policy_from 5 s run run' v 0 r.past r.end
+Walks s run run' v (Err x) = (length run' ≡ length run) × StuckAt s v x
 
 abbrev pub StuckIn : List ℕ → ℕ → Place → Type 0
 StuckIn s v P.Text = Unit {0}
 StuckIn s v (P.Behind i) = Stuck policy_of levels outside ⊥ s v i
 StuckIn s v (P.Inside i o) = Stuck policy_of levels (within o ++ outside) (Blame o s i) s v i
 
-abbrev pub Gets : List ℕ → List ℕ → List ℕ → ℕ → Gone → Type 0
-Gets s run run' v (G.Past p e) = Taken held policy_of 6 s run run' v 0 p e
-Gets s run run' v (G.Left x) = (length run' ≡ length run) × StuckIn s v x
+abbrev pub Gets : List ℕ → List ℕ → List ℕ → ℕ → Result Ended Place → Type 0
+Gets s run run' v (Ok r) = Taken held policy_of 6 s run run' v 0 r.past r.end
+Gets s run run' v (Err x) = (length run' ≡ length run) × StuckIn s v x
 
 -- the verdict on the text is that of what is owed at the place
 pub record Leaves (s : List ℕ) (x : Place) : Type 0 where
   pub inside : place_in x ≤ length s
   pub judged : verdict s ≡ from (owing x) s (place_in x)
-  pub blames : verdict s ≡ Whole → (t : Json) → JsonText s t → BlameAt x s → policy_of t ≡ wrong
+  pub blames : verdict s ≡ Ok tt → (t : Json) → JsonText s t → BlameAt x s → policy_of t ≡ wrong
 
-abbrev pub Finds : List ℕ → List ℕ → List ℕ → Found → Type 0
-Finds s run run' (F.Held n) = TakenText held policy_of s run run' n
-Finds s run run' (F.Left x) = (length run' ≡ length run) × Leaves s x
+abbrev pub Finds : List ℕ → List ℕ → List ℕ → Result ℕ Place → Type 0
+Finds s run run' (Ok n) = TakenText held policy_of s run run' n
+Finds s run run' (Err x) = (length run' ≡ length run) × Leaves s x

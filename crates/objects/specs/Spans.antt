@@ -1,10 +1,10 @@
 -- Spans: where the parts of an object lie in a run, by their turns from 1 on. Of twelve numbers, the first is the place
--- behind the object in its text, or 0 where it was given up; the second the place behind all parts in the run; then
+-- behind the object in its text; the second the place behind all parts in the run; then
 -- come two for each turn, from which place up to which its part lies.
 --   from_of m k, to_of m k, behind m   those places
 --   in_turn run m n                   the parts of the first n turns, one behind the other
 --   Spanned run m n at               the parts of n turns lie in the run, and end before `behind`
-use Rattle.std.specs.Prelude.{◌≡◌, ◌⊎◌, List, [], ◌++◌, ℕ, zero, suc, ◌+◌, ◌-◌, ◌≤◌, ◌<◌, length, get_or}
+use Rattle.std.specs.Prelude.{◌≡◌, ◌⊎◌, List, [], ◌++◌, ℕ, zero, suc, ◌+◌, ◌-◌, ◌≤◌, ◌<◌, length, get_or, Option, Some, None}
 use Rattle.chars.specs.Base.{part}
 use Rattle.parts.specs.Holding.{Extends}
 use Rattle.objects.specs.declared.settling.Lined.{Lined}
@@ -55,10 +55,10 @@ pub record Copied (run run' m : List ℕ) (first last p : ℕ) : Type 0 where
   pub extends : Extends run run' (behind m) rest p
   pub joins : in_turn run m last ≡ in_turn run m first ++ rest
 
-pub record Copies (run run' m : List ℕ) (first last r : ℕ) : Type 0 where
-  pub size : length run' ≡ length run
-  pub copied : (r ≡ 0 → ⊥) → Copied run run' m first last r
+abbrev pub Copies : List ℕ → List ℕ → List ℕ → ℕ → ℕ → Option ℕ → Type 0
+Copies run run' m first last (Some p) = Copied run run' m first last p
+Copies run run' m first last None = length run' ≡ length run
 
-pub record Settles (run run' m : List ℕ) (last at r : ℕ) : Type 0 where
-  pub size : length run' ≡ length run
-  pub settled : (r ≡ 0 → ⊥) → Extends run run' at (in_turn run m last) r
+abbrev pub Settles : List ℕ → List ℕ → List ℕ → ℕ → ℕ → Option ℕ → Type 0
+Settles run run' m last at (Some p) = Extends run run' at (in_turn run m last) p
+Settles run run' m last at None = length run' ≡ length run

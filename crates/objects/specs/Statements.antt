@@ -2,7 +2,7 @@
 --   statements            its words: first those whose values lie in the run, in the order in which a statement is held
 --   Slots, statement_from  its members by name, and the statement that they are
 --   Sorted run m at x     where the values of the members x lie
-use Rattle.std.specs.Prelude.{◌≡◌, List, [], ◌∷◌, ℕ, zero, suc, ◌+◌, ◌≤◌, length, get_or, set}
+use Rattle.std.specs.Prelude.{◌≡◌, List, [], ◌∷◌, ℕ, zero, suc, ◌+◌, ◌≤◌, length, set}
 use Rattle.syntax.specs.Policy.{Statement}
 use Rattle.syntax.specs.Forms.{Reading, read}
 use Rattle.syntax.specs.Words.{sid_word, effect_word, action_word, resource_word, condition_word}
@@ -69,4 +69,3 @@ pub record Sorting (run m : List ℕ) (at : ℕ) : Type 0 where
 pub data WithSid (m : List ℕ) (at base : ℕ) (m' : List ℕ) : Type 0 where
   there : (to_of m 1 ≡ 0 → ⊥) → m' ≡ m → WithSid m at base m'
   lacking : to_of m 1 ≡ 0 → base ≡ at + 2 → m' ≡ set (set m 2 (at + 1)) 3 (at + 2) → WithSid m at base m'
-  neither : get_or m' 0 0 ≡ 0 → length m' ≡ length m → WithSid m at base m'

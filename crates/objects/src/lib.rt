@@ -5,6 +5,7 @@
 
 pub mod contexts;
 pub mod filling;
+pub mod gathering;
 pub mod leaving;
 pub mod members;
 pub mod policies;

@@ -9,9 +9,10 @@ ghost use Rattle.held.specs.Lying.{Lies, Lying, LyingMany, Placed, PlacedMany};
 ghost use Rattle.parts.specs.Room.{Roomy};
 ghost use Rattle.objects.specs.Leaving.{Closes, Ceases, Counts, Walks, Gets, Finds};
 
-use crate::leaving::{Counted, Found, Gone, Owed, Place, Stated, Walked};
-use crate::{leaving, statements};
+use crate::leaving::{Owed, Place};
+use crate::statements;
 use held::runs;
+use parts::holding::{Ended, Listed};
 use straight::marks;
 use text::scan;
 
@@ -33,189 +34,137 @@ fn repeats(run: &[u32], at: usize, places: [usize; 64], n: usize, p: usize) -> b
 }
 
 // The end of a list behind its last statement.
-fn closed(s: &[u8], end: usize, past: usize, count: usize) -> Counted
+fn closed(s: &[u8], end: usize, past: usize, count: usize) -> Result<Listed, Place>
     requires { end ≤ length s.now }
     ensures { Closes s.now end past count result }
 {
-    let e = marks::closed(s, end, 93);
-    if e == 0 {
-        return Counted::Left {
+    match marks::closed(s, end, b']') {
+        Some(end) => Ok(Listed { past, end, count }),
+        None => Err(Place::Inside {
             at: end,
             owed: Owed::Next,
-        };
-    }
-    Counted::Several {
-        past: past,
-        end: e,
-        count: count,
+        }),
     }
 }
 
 // The statements of a list of at least one; no two have the same Sid.
-fn listed(s: &[u8], v: usize, run: &mut [u32], at: usize) -> Counted
+fn listed(s: &[u8], v: usize, run: &mut [u32], at: usize) -> Result<Listed, Place>
     requires { Roomy run.old at 0 }
     ensures { Counts s.now run.old run.new v at result }
 {
-    let mut i = marks::opened(s, v, 91);
-    if i == 0 {
-        return Counted::Wrong;
-    }
-    let mut places = [0usize; 64];
+    let mut i = marks::opened(s, v, b'[').ok_or(Place::Text)?;
+    let mut places = [0usize; FEW];
     let mut p = at;
     let mut n = 0usize;
     loop {
-        let h = statements::statement(s, i, run, p);
-        let Stated::Past { past, end } = h else {
-            return leaving::in_list(h);
+        let Ended { past, end } = match statements::statement(s, i, run, p) {
+            Ok(h) => h,
+            Err(x) => return Err(x.inside(Owed::Listed)),
         };
         if repeats(run, at, places, n, p) {
-            return Counted::Left {
+            return Err(Place::Inside {
                 at: end,
                 owed: Owed::Next,
-            };
+            });
         }
         if n < FEW {
             places[n] = p;
         }
         p = past;
-        n = n + 1;
-        let c = marks::parted(s, end, 44);
-        if c == 0 {
+        n += 1;
+        let Some(next) = marks::parted(s, end, b',') else {
             return closed(s, end, p, n);
-        }
-        i = c;
+        };
+        i = next;
     }
 }
 
 // One statement that stands by itself, behind their number.
-fn lone(s: &[u8], v: usize, run: &mut [u32]) -> Walked
+fn lone(s: &[u8], v: usize, run: &mut [u32]) -> Result<Ended, Place>
     requires { (0 < length run.old) × (length run.old ≤ run_numbers) }
     ensures { Walks s.now run.old run.new v result }
 {
-    let h = statements::statement(s, v, run, 1);
-    let Stated::Past { past, end } = h else {
-        return leaving::by_itself(h);
-    };
-    run[0] = 1;
-    Walked::Past {
-        past: past,
-        end: end,
+    match statements::statement(s, v, run, 1) {
+        Ok(h) => {
+            run[0] = 1;
+            Ok(h)
+        }
+        Err(x) => Err(x.inside(Owed::Alone)),
     }
 }
 
 // One statement or a list of at least one, behind their number.
-fn several(s: &[u8], v: usize, run: &mut [u32]) -> Walked
+fn several(s: &[u8], v: usize, run: &mut [u32]) -> Result<Ended, Place>
     requires { length run.old ≤ run_numbers }
     ensures { Walks s.now run.old run.new v result }
 {
-    if run.len() == 0 {
-        return Walked::Wrong;
+    if run.len() == 0 || s.len() <= v {
+        return Err(Place::Text);
     }
-    if s.len() <= v {
-        return Walked::Wrong;
-    }
-    if s[v] != 91 {
+    if s[v] != b'[' {
         return lone(s, v, run);
     }
-    let c = listed(s, v, run, 1);
-    let Counted::Several { past, end, count } = c else {
-        return leaving::in_value(c);
-    };
+    let Listed { past, end, count } = listed(s, v, run, 1)?;
     if MOST < count {
-        return Walked::Wrong;
+        return Err(Place::Text);
     }
     run[0] = count as u32;
-    Walked::Past {
-        past: past,
-        end: end,
-    }
+    Ok(Ended { past, end })
 }
 
 // The end of a policy at a place; where something else stands, it is given up behind the member that ends at `behind`.
-fn ended(s: &[u8], behind: usize, at: usize, past: usize) -> Gone
+fn ended(s: &[u8], behind: usize, at: usize, past: usize) -> Result<Ended, Place>
     requires { at ≤ length s.now }
     ensures { Ceases s.now behind at past result }
 {
-    let e = marks::closed(s, at, 125);
-    if e == 0 {
-        return Gone::Left(Place::Behind(behind));
-    }
-    Gone::Past { past: past, end: e }
+    let end = marks::closed(s, at, b'}').ok_or(Place::Behind(behind))?;
+    Ok(Ended { past, end })
 }
 
 // The policy that an object is, Version first.
-fn version_first(s: &[u8], v: usize, run: &mut [u32]) -> Gone
+fn version_first(s: &[u8], v: usize, run: &mut [u32]) -> Result<Ended, Place>
     requires { length run.old ≤ run_numbers }
     ensures { Gets s.now run.old run.new v result }
 {
-    let a = marks::first(s, v, b"Version");
-    if a == 0 {
-        return Gone::Left(Place::Text);
-    }
-    let i = marks::quote(s, a, b"2012-10-17");
-    if i == 0 {
-        return Gone::Left(Place::Text);
-    }
-    let b = marks::next(s, i, b"Statement");
-    if b == 0 {
-        return Gone::Left(Place::Text);
-    }
-    let h = several(s, b, run);
-    let Walked::Past { past, end } = h else {
-        return leaving::in_policy(h);
-    };
+    let a = marks::first(s, v, b"Version").ok_or(Place::Text)?;
+    let i = marks::quote(s, a, b"2012-10-17").ok_or(Place::Text)?;
+    let b = marks::next(s, i, b"Statement").ok_or(Place::Text)?;
+    let Ended { past, end } = several(s, b, run)?;
     ended(s, end, end, past)
 }
 
 // The policy that an object is, Statement first.
-fn statement_first(s: &[u8], v: usize, run: &mut [u32]) -> Gone
+fn statement_first(s: &[u8], v: usize, run: &mut [u32]) -> Result<Ended, Place>
     requires { length run.old ≤ run_numbers }
     ensures { Gets s.now run.old run.new v result }
 {
-    let b = marks::first(s, v, b"Statement");
-    if b == 0 {
-        return Gone::Left(Place::Text);
-    }
-    let h = several(s, b, run);
-    let Walked::Past { past, end } = h else {
-        return leaving::in_policy(h);
-    };
-    let a = marks::next(s, end, b"Version");
-    if a == 0 {
-        return Gone::Left(Place::Behind(end));
-    }
-    let i = marks::quote(s, a, b"2012-10-17");
-    if i == 0 {
-        return Gone::Left(Place::Behind(end));
-    }
+    let b = marks::first(s, v, b"Statement").ok_or(Place::Text)?;
+    let Ended { past, end } = several(s, b, run)?;
+    let a = marks::next(s, end, b"Version").ok_or(Place::Behind(end))?;
+    let i = marks::quote(s, a, b"2012-10-17").ok_or(Place::Behind(end))?;
     ended(s, end, i, past)
 }
 
 // The policy that an object is, told by its first name.
-fn object(s: &[u8], v: usize, run: &mut [u32]) -> Gone
+fn object(s: &[u8], v: usize, run: &mut [u32]) -> Result<Ended, Place>
     requires { length run.old ≤ run_numbers }
     ensures { Gets s.now run.old run.new v result }
 {
-    if marks::first(s, v, b"Version") != 0 {
+    if marks::first(s, v, b"Version").is_some() {
         return version_first(s, v, run);
     }
     statement_first(s, v, run)
 }
 
 // The policy that a text is; or where it is given up.
-pub fn policy(s: &[u8], run: &mut [u32]) -> Found
+pub fn policy(s: &[u8], run: &mut [u32]) -> Result<usize, Place>
     requires { length run.old ≤ run_numbers }
     ensures { Finds s.now run.old run.new result }
 {
     let v = scan::space(s, 0);
-    let h = object(s, v, run);
-    match h {
-        Gone::Past { past, end } => {
-            if scan::space(s, end) < s.len() {
-                return Found::Left(Place::Text);
-            }
-            Found::Held(past)
-        }
-        Gone::Left(x) => Found::Left(x),
+    let Ended { past, end } = object(s, v, run)?;
+    if scan::space(s, end) < s.len() {
+        return Err(Place::Text);
     }
+    Ok(past)
 }

@@ -16,13 +16,8 @@ fn moved(run: &mut [u32], from: usize, to: usize, at: usize) -> usize
     requires { Movable run.old from to at }
     ensures { Extends run.old run.new at (part run.old from to) result }
 {
-    let n = to - from;
-    let mut j = 0;
-    while j < n {
-        run[at + j] = run[from + j];
-        j += 1;
-    }
-    at + n
+    run.copy_within(from..to, at);
+    at + (to - from)
 }
 
 // How many parts lie in turn already, the first from a place on.
@@ -43,8 +38,8 @@ fn settled(spans: [usize; 12], last: usize, at: usize) -> Lined
     Lined { count: n, past: p }
 }
 
-// The parts behind the first ones copied behind all parts, in turn: where they end, or 0 where there is no room.
-fn copied(run: &mut [u32], spans: [usize; 12], first: usize, last: usize) -> usize
+// The parts behind the first ones copied behind all parts, in turn: where they end, if there is room.
+fn copied(run: &mut [u32], spans: [usize; 12], first: usize, last: usize) -> Option<usize>
     requires { (Spanned run.old spans last 0) × (first ≤ last) }
     ensures { Copies run.old run.new spans first last result }
 {
@@ -55,29 +50,24 @@ fn copied(run: &mut [u32], spans: [usize; 12], first: usize, last: usize) -> usi
         let from = spans[k + k];
         let to = spans[k + k + 1];
         if run.len() - p < to - from {
-            return 0;
+            return None;
         }
         p = moved(run, from, to, p);
         n = k;
     }
-    p
+    Some(p)
 }
 
-// The parts put in turn from a place on: where they end, or 0 where there is no room to do it.
-pub fn settle(run: &mut [u32], spans: [usize; 12], last: usize, at: usize) -> usize
+// The parts put in turn from a place on: where they end, if there is room to do it.
+pub fn settle(run: &mut [u32], spans: [usize; 12], last: usize, at: usize) -> Option<usize>
     requires { Spanned run.old spans last at }
     ensures { Settles run.old run.new spans last at result }
 {
-    let f = settled(spans, last, at);
-    let first = f.count;
-    let p = f.past;
-    if last <= first {
-        return p;
+    let Lined { count, past } = settled(spans, last, at);
+    if last <= count {
+        return Some(past);
     }
-    let q = copied(run, spans, first, last);
-    if q == 0 {
-        return 0;
-    }
+    let end = copied(run, spans, count, last)?;
     let behind = spans[1];
-    moved(run, behind, q, p)
+    Some(moved(run, behind, end, past))
 }

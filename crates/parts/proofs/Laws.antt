@@ -2,6 +2,7 @@ pub mod Slots
 pub mod Walking
 pub mod WalkingOn
 pub mod Extends
+pub mod Kinds
 pub mod Holding
 pub mod Spoken
 pub mod Formed

@@ -3,9 +3,8 @@
 --   Holds h run run' at x r    what x reads lies in the run as h holds it; or x is wrong
 --   HoldsTo h run run' at x e r     likewise, and what says x ends at e
 --   GathersTo h run run' at x e r   likewise for several things, with their count
---   past_of r                   the answer without the end
 --   entry_of k t                the entry of a list of kind k that t is
-use Rattle.std.specs.Prelude.{◌≡◌, Bool, true, false, List, ◌++◌, ℕ, ◌+◌, length, take}
+use Rattle.std.specs.Prelude.{◌≡◌, Bool, true, false, List, ◌++◌, ℕ, ◌+◌, length, take, Option, Some, None}
 use Rattle.text.specs.Json.{Json}
 use Rattle.text.specs.declared.walk.Kind.{Kind}
 use Rattle.text.specs.declared.walk.Kind.TheVariants as K
@@ -15,13 +14,8 @@ use Rattle.syntax.specs.PolicyLayout.{as_text, action_of, resource_of, value_of}
 use Rattle.held.specs.Held.{held_each}
 use Rattle.parts.specs.Spoken.{operator_is}
 use Rattle.syntax.specs.Told.{told_number}
-use Rattle.syntax.specs.declared.numbers.Number.{Number}
-use Rattle.parts.specs.declared.holding.Held.{Held}
-use Rattle.parts.specs.declared.holding.Held.TheVariants as H
 use Rattle.parts.specs.declared.holding.Ended.{Ended}
-use Rattle.parts.specs.declared.holding.Ended.TheVariants as N
 use Rattle.parts.specs.declared.holding.Listed.{Listed}
-use Rattle.parts.specs.declared.holding.Listed.TheVariants as L
 use Rattle.parts.specs.declared.entries.Entry.{Entry}
 use Rattle.parts.specs.declared.entries.Entry.TheVariants as E
 
@@ -87,21 +81,17 @@ pub record Left {A : Type 0} (run run' : List ℕ) (x : Reading A) : Type 0 wher
   pub size : length run' ≡ length run
   pub said : x ≡ wrong
 
-abbrev pub Holds : {A : Type 0} → (A → List ℕ) → List ℕ → List ℕ → ℕ → Reading A → Held → Type 0
-Holds h run run' at x (H.Past p) = Laid h run run' at x p
-Holds h run run' at x H.Wrong = Left run run' x
+abbrev pub Holds : {A : Type 0} → (A → List ℕ) → List ℕ → List ℕ → ℕ → Reading A → Option ℕ → Type 0
+Holds h run run' at x (Some p) = Laid h run run' at x p
+Holds h run run' at x None = Left run run' x
 
-abbrev pub HoldsTo : {A : Type 0} → (A → List ℕ) → List ℕ → List ℕ → ℕ → Reading A → ℕ → Ended → Type 0
-HoldsTo h run run' at x e (N.Past p q) = (Laid h run run' at x p) × (q ≡ e)
-HoldsTo h run run' at x e N.Wrong = Left run run' x
+abbrev pub HoldsTo : {A : Type 0} → (A → List ℕ) → List ℕ → List ℕ → ℕ → Reading A → ℕ → Option Ended → Type 0
+HoldsTo h run run' at x e (Some r) = (Laid h run run' at x r.past) × (r.end ≡ e)
+HoldsTo h run run' at x e None = Left run run' x
 
-abbrev pub past_of : Ended → Held
-past_of (N.Past p q) = H.Past p
-past_of N.Wrong = H.Wrong
-
-abbrev pub GathersTo : {A : Type 0} → (A → List ℕ) → List ℕ → List ℕ → ℕ → Reading (List A) → ℕ → Listed → Type 0
-GathersTo h run run' at x e (L.Several p q n) = (Gathered h run run' at x p n) × (q ≡ e)
-GathersTo h run run' at x e L.Wrong = Left run run' x
+abbrev pub GathersTo : {A : Type 0} → (A → List ℕ) → List ℕ → List ℕ → ℕ → Reading (List A) → ℕ → Option Listed → Type 0
+GathersTo h run run' at x e (Some r) = (Gathered h run run' at x r.past r.count) × (r.end ≡ e)
+GathersTo h run run' at x e None = Left run run' x
 
 -- nothing before place at was changed
 pub record Kept (run run' : List ℕ) (at : ℕ) : Type 0 where
@@ -109,7 +99,7 @@ pub record Kept (run run' : List ℕ) (at : ℕ) : Type 0 where
   pub is : take at run' ≡ take at run
 
 -- the number that x reads; where it is one, nothing before place at was changed
-pub record Finds (run run' : List ℕ) (at : ℕ) (x : Reading ℕ) (r : Number) : Type 0 where
+pub record Finds (run run' : List ℕ) (at : ℕ) (x : Reading ℕ) (r : Option ℕ) : Type 0 where
   pub size : length run' ≡ length run
   pub said : told_number r ≡ x
   pub kept : (n : ℕ) → x ≡ read n → Kept run run' at

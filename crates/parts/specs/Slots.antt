@@ -1,9 +1,11 @@
 -- Slots: what one walk over an object's members tells a layout.
 --   words_of l             the names that a layout knows, in their turn
 --   which_of ns w          the turn of a raw name among words, from 1; 0 for none
+--   as_turn k              the same, if it is one
 --   Slotted s ns ms e r   places by turn: at 0 the object's end e, or 0 where a name is unknown or repeated; at k where
 --                         word k's value stands
-use Rattle.std.specs.Prelude.{◌≡◌, true, false, ◌⊎◌, List, [], ◌∷◌, ℕ, zero, suc, ◌-◌, ◌≤◌, ◌<◌, length, get_or}
+use Rattle.std.specs.Prelude.{◌≡◌, true, false, ◌⊎◌, List, [], ◌∷◌, ℕ, zero, suc, ◌-◌, ◌≤◌, ◌<◌, length, get_or, Option, Some, None}
+use Rattle.std.specs.Borrow.{Bor}
 use Rattle.chars.specs.Base.{pick}
 use Rattle.text.specs.Json.{Json, Members}
 use Rattle.chars.specs.Decoding.{text_of, same_text}
@@ -30,6 +32,16 @@ later (suc k) = suc (suc k)
 unfoldable pub which_of : List (List ℕ) → List ℕ → ℕ
 which_of [] w = 0
 which_of (n ∷ ns) w = pick (same_text (text_of w) n) 1 (later (which_of ns w))
+
+-- a turn, if it is one
+abbrev pub as_turn : ℕ → Option ℕ
+as_turn zero = None
+as_turn (suc k) = Some (suc k)
+
+-- words that are lent
+abbrev pub spelt : List (Bor (List ℕ)) → List (List ℕ)
+spelt [] = []
+spelt (w ∷ ws) = w.now ∷ spelt ws
 
 -- the word of a turn
 abbrev pub word_at : List (List ℕ) → ℕ → List ℕ

@@ -10,13 +10,11 @@ ghost use Rattle.parts.specs.Room.{Roomy, Holdable, HoldableList};
 ghost use Rattle.parts.specs.Holding.{Holds, HoldsTo, GathersTo, Finds, entry_of};
 
 use crate::holding;
-use crate::holding::{Ended, Held, Listed};
+use crate::holding::{Ended, Listed};
 use crate::words::Operator;
-use syntax::numbers::Number;
-use syntax::symbols::Converted;
 use syntax::{forms, numbers, symbols};
 use text::walk;
-use text::walk::Element;
+use text::walk::{Element, Kind};
 
 // The kinds of list.
 #[derive(Clone, Copy)]
@@ -26,132 +24,98 @@ pub enum Entry {
     Value(Operator),
 }
 
-pub fn hold_sid(s: &[u8], v: usize, run: &mut [u32], at: usize) -> Ended
+pub fn hold_sid(s: &[u8], v: usize, run: &mut [u32], at: usize) -> Option<Ended>
     requires { Holdable s.now v run.old at 0 }
     ensures { (t : Json) (e : ℕ) → Stands s.now t v e → HoldsTo held_text run.old run.new at (sid_of t) e result }
 {
-    let h = holding::hold_string(s, v, run, at);
-    let Ended::Past { past, end } = h else {
-        return Ended::Wrong;
-    };
+    let h = holding::hold_string(s, v, run, at)?;
     let first = at + 1;
-    if !forms::is_sid(&run[first..past]) {
-        return Ended::Wrong;
+    if !forms::is_sid(&run[first..h.past]) {
+        return None;
     }
-    Ended::Past {
-        past: past,
-        end: end,
-    }
+    Some(h)
 }
 
-// A condition key, from its raw name.
-pub fn hold_key(raw: &[u8], run: &mut [u32], at: usize) -> Held
+// A condition key, from its raw name: the place behind it.
+pub fn hold_key(raw: &[u8], run: &mut [u32], at: usize) -> Option<usize>
     requires { Roomy run.old at (1 + length raw.now) }
     ensures { Holds held_text run.old run.new at (key_of raw.now) result }
 {
-    let h = holding::hold_raw(raw, run, at);
-    let Held::Past(p) = h else {
-        return Held::Wrong;
-    };
+    let past = holding::hold_raw(raw, run, at)?;
     let first = at + 1;
-    if !forms::is_key(&run[first..p]) {
-        return Held::Wrong;
+    if !forms::is_key(&run[first..past]) {
+        return None;
     }
-    Held::Past(p)
+    Some(past)
 }
 
 // An Action entry, its wildcards apart from every character.
-fn hold_action(s: &[u8], v: usize, run: &mut [u32], at: usize) -> Ended
+fn hold_action(s: &[u8], v: usize, run: &mut [u32], at: usize) -> Option<Ended>
     requires { Holdable s.now v run.old at 0 }
     ensures { (t : Json) (e : ℕ) → Stands s.now t v e → HoldsTo held_text run.old run.new at (action_of t) e result }
 {
-    let h = holding::hold_string(s, v, run, at);
-    let Ended::Past { past, end } = h else {
-        return Ended::Wrong;
-    };
+    let h = holding::hold_string(s, v, run, at)?;
     let first = at + 1;
-    if !forms::is_action(&run[first..past]) {
-        return Ended::Wrong;
+    if !forms::is_action(&run[first..h.past]) {
+        return None;
     }
-    symbols::wildcards(&mut run[first..past]);
-    Ended::Past {
-        past: past,
-        end: end,
-    }
+    symbols::wildcards(&mut run[first..h.past]);
+    Some(h)
 }
 
 // A text with its escapes resolved, its wildcards apart where there are some.
-fn hold_symbols(s: &[u8], v: usize, run: &mut [u32], at: usize, wild: bool) -> Ended
+fn hold_symbols(s: &[u8], v: usize, run: &mut [u32], at: usize, wild: bool) -> Option<Ended>
     requires { Holdable s.now v run.old at 0 }
     ensures { (t : Json) (e : ℕ) → Stands s.now t v e → HoldsTo held_text run.old run.new at (then (characters_of t) (symbols_of wild)) e result }
 {
-    let h = holding::hold_string(s, v, run, at);
-    let Ended::Past { past, end } = h else {
-        return Ended::Wrong;
-    };
+    let Ended { past, end } = holding::hold_string(s, v, run, at)?;
     let first = at + 1;
-    let c = symbols::symbols(&mut run[first..past], wild);
-    let Converted::Count(n) = c else {
-        return Ended::Wrong;
-    };
+    let n = symbols::symbols(&mut run[first..past], wild)?;
     run[at] = n as u32;
-    Ended::Past {
+    Some(Ended {
         past: first + n,
-        end: end,
-    }
+        end,
+    })
 }
 
-fn hold_resource(s: &[u8], v: usize, run: &mut [u32], at: usize) -> Ended
+fn hold_resource(s: &[u8], v: usize, run: &mut [u32], at: usize) -> Option<Ended>
     requires { Holdable s.now v run.old at 0 }
     ensures { (t : Json) (e : ℕ) → Stands s.now t v e → HoldsTo held_text run.old run.new at (resource_of t) e result }
 {
-    let h = hold_symbols(s, v, run, at, true);
-    let Ended::Past { past, end } = h else {
-        return Ended::Wrong;
-    };
+    let h = hold_symbols(s, v, run, at, true)?;
     let first = at + 1;
-    if !forms::is_resource(&run[first..past]) {
-        return Ended::Wrong;
+    if !forms::is_resource(&run[first..h.past]) {
+        return None;
     }
-    Ended::Past {
-        past: past,
-        end: end,
-    }
+    Some(h)
 }
 
 // The number that stands at a place, as a JSON number or a string; its characters may be written behind a place.
-fn number_at(s: &[u8], v: usize, run: &mut [u32], at: usize) -> Number
+fn number_at(s: &[u8], v: usize, run: &mut [u32], at: usize) -> Option<u64>
     requires { Holdable s.now v run.old at 0 }
     ensures { (t : Json) (e : ℕ) → Stands s.now t v e → Finds run.old run.new at (number_of_json t) result }
 {
-    if holding::is_number(walk::kind_at(s, v)) {
+    if walk::kind_at(s, v) == Kind::Number {
         let e = walk::past_value(s, v);
         return numbers::number_spelt(&s[v..e]);
     }
-    let h = holding::hold_text(s, v, run, at);
-    let Held::Past(p) = h else {
-        return Number::Wrong;
-    };
+    let past = holding::hold_text(s, v, run, at)?;
     let first = at + 1;
-    numbers::number_in(&run[first..p])
+    numbers::number_in(&run[first..past])
 }
 
-fn hold_number(s: &[u8], v: usize, run: &mut [u32], at: usize) -> Ended
+fn hold_number(s: &[u8], v: usize, run: &mut [u32], at: usize) -> Option<Ended>
     requires { Holdable s.now v run.old at 0 }
     ensures { (t : Json) (e : ℕ) → Stands s.now t v e → HoldsTo held_number run.old run.new at (number_of_json t) e result }
 {
-    let k = number_at(s, v, run, at);
-    let Number::Is(n) = k else {
-        return Ended::Wrong;
-    };
-    let p = holding::put_number(run, at, n);
-    Ended::Past {
-        past: p,
+    let n = number_at(s, v, run, at)?;
+    Some(Ended {
+        past: holding::put_number(run, at, n),
         end: walk::past_value(s, v),
-    }
+    })
 }
 
-fn hold_value(s: &[u8], v: usize, run: &mut [u32], at: usize, o: Operator) -> Ended
+fn hold_value(s: &[u8], v: usize, run: &mut [u32], at: usize, o: Operator) -> Option<Ended>
     requires { Holdable s.now v run.old at 0 }
     ensures { (t : Json) (e : ℕ) → Stands s.now t v e → HoldsTo held_value run.old run.new at (entry_of (Entry.Value o) t) e result }
 {
@@ -162,7 +126,7 @@ fn hold_value(s: &[u8], v: usize, run: &mut [u32], at: usize, o: Operator) -> En
     }
 }
 
-fn hold_entry(s: &[u8], v: usize, run: &mut [u32], at: usize, k: Entry) -> Ended
+fn hold_entry(s: &[u8], v: usize, run: &mut [u32], at: usize, k: Entry) -> Option<Ended>
     requires { Holdable s.now v run.old at 0 }
     ensures { (t : Json) (e : ℕ) → Stands s.now t v e → HoldsTo held_value run.old run.new at (entry_of k t) e result }
 {
@@ -174,62 +138,41 @@ fn hold_entry(s: &[u8], v: usize, run: &mut [u32], at: usize, k: Entry) -> Ended
 }
 
 // The entries of the list that stands at a place.
-fn hold_list(s: &[u8], v: usize, run: &mut [u32], at: usize, k: Entry) -> Listed
+fn hold_list(s: &[u8], v: usize, run: &mut [u32], at: usize, k: Entry) -> Option<Listed>
     requires { HoldableList s.now v run.old at }
     ensures { (ts : Values) (e : ℕ) → Stands s.now (list ts) v e → GathersTo held_value run.old run.new at (each (entry_of k) ts) e result }
 {
     let mut m = walk::first_element(s, v);
-    let mut p = at;
-    let mut n = 0usize;
+    let mut past = at;
+    let mut count = 0usize;
     loop {
         match m {
             Element::At(i) => {
-                let h = hold_entry(s, i, run, p, k);
-                let Ended::Past { past, end } = h else {
-                    return Listed::Wrong;
-                };
-                p = past;
-                n = n + 1;
-                m = walk::next_element(s, end);
+                let h = hold_entry(s, i, run, past, k)?;
+                past = h.past;
+                count += 1;
+                m = walk::next_element(s, h.end);
             }
-            Element::Past(e) => {
-                return Listed::Several {
-                    past: p,
-                    end: e,
-                    count: n,
-                };
-            }
+            Element::Past(end) => return Some(Listed { past, end, count }),
         }
     }
 }
 
 // One entry or a list of at least one, behind their number.
-pub fn hold_entries(s: &[u8], v: usize, run: &mut [u32], at: usize, k: Entry) -> Ended
+pub fn hold_entries(s: &[u8], v: usize, run: &mut [u32], at: usize, k: Entry) -> Option<Ended>
     requires { Holdable s.now v run.old at 1 }
     ensures { (t : Json) (e : ℕ) → Stands s.now t v e → HoldsTo (held_list held_value) run.old run.new at (one_or_more (entry_of k) t) e result }
 {
     let first = at + 1;
-    if !holding::is_list(walk::kind_at(s, v)) {
-        let h = hold_entry(s, v, run, first, k);
-        let Ended::Past { past, end } = h else {
-            return Ended::Wrong;
-        };
+    if walk::kind_at(s, v) != Kind::List {
+        let h = hold_entry(s, v, run, first, k)?;
         run[at] = 1;
-        return Ended::Past {
-            past: past,
-            end: end,
-        };
+        return Some(h);
     }
-    let c = hold_list(s, v, run, first, k);
-    let Listed::Several { past, end, count } = c else {
-        return Ended::Wrong;
-    };
+    let Listed { past, end, count } = hold_list(s, v, run, first, k)?;
     if count == 0 {
-        return Ended::Wrong;
+        return None;
     }
     run[at] = count as u32;
-    Ended::Past {
-        past: past,
-        end: end,
-    }
+    Some(Ended { past, end })
 }

@@ -2,7 +2,7 @@
 ghost use Rattle.std.specs.Prelude.{◌≡◌, ℕ};
 ghost use Rattle.text.specs.Json.{Members, object};
 ghost use Rattle.text.specs.Contents.{Stands, StandingObject};
-ghost use Rattle.parts.specs.Slots.{words_of, which_of, Slotted};
+ghost use Rattle.parts.specs.Slots.{words_of, which_of, as_turn, spelt, Slotted};
 
 use text::walk;
 use text::walk::Member;
@@ -16,78 +16,29 @@ pub enum Layout {
     Context,
 }
 
-fn of_policy(raw: &[u8]) -> usize
-    ensures { result ≡ which_of (words_of Layout.Policy) raw.now }
+// The turn of a raw name among words, counted from 1.
+fn turn(raw: &[u8], words: &[&[u8]]) -> Option<usize>
+    ensures { result ≡ as_turn (which_of (spelt words.now) raw.now) }
 {
-    if chars::strings::same(raw, b"Version") {
-        return 1;
-    }
-    if chars::strings::same(raw, b"Statement") {
-        return 2;
-    }
-    0
+    let k = words.iter().position(|w| chars::strings::same(raw, w))?;
+    Some(k + 1)
 }
 
-fn of_statement(raw: &[u8]) -> usize
-    ensures { result ≡ which_of (words_of Layout.Statement) raw.now }
-{
-    if chars::strings::same(raw, b"Sid") {
-        return 1;
-    }
-    if chars::strings::same(raw, b"Effect") {
-        return 2;
-    }
-    if chars::strings::same(raw, b"Action") {
-        return 3;
-    }
-    if chars::strings::same(raw, b"Resource") {
-        return 4;
-    }
-    if chars::strings::same(raw, b"Condition") {
-        return 5;
-    }
-    0
-}
-
-fn of_record(raw: &[u8]) -> usize
-    ensures { result ≡ which_of (words_of Layout.Record) raw.now }
-{
-    if chars::strings::same(raw, b"ActionNames") {
-        return 1;
-    }
-    if chars::strings::same(raw, b"ResourceArns") {
-        return 2;
-    }
-    if chars::strings::same(raw, b"ContextEntries") {
-        return 3;
-    }
-    0
-}
-
-fn of_context(raw: &[u8]) -> usize
-    ensures { result ≡ which_of (words_of Layout.Context) raw.now }
-{
-    if chars::strings::same(raw, b"ContextKeyName") {
-        return 1;
-    }
-    if chars::strings::same(raw, b"ContextKeyType") {
-        return 2;
-    }
-    if chars::strings::same(raw, b"ContextKeyValues") {
-        return 3;
-    }
-    0
-}
-
-// The turn of a raw name among a layout's words, counted from 1; 0 where it is none of them.
-pub fn which(raw: &[u8], layout: Layout) -> usize
-    ensures { result ≡ which_of (words_of layout) raw.now }
+// The turn of a raw name among a layout's words.
+pub fn which(raw: &[u8], layout: Layout) -> Option<usize>
+    ensures { result ≡ as_turn (which_of (words_of layout) raw.now) }
 {
     match layout {
-        Layout::Policy => of_policy(raw),
-        Layout::Statement => of_statement(raw),
-        Layout::Record => of_record(raw),
-        Layout::Context => of_context(raw),
+        Layout::Policy => turn(raw, &[b"Version", b"Statement"]),
+        Layout::Statement => turn(
+            raw,
+            &[b"Sid", b"Effect", b"Action", b"Resource", b"Condition"],
+        ),
+        Layout::Record => turn(raw, &[b"ActionNames", b"ResourceArns", b"ContextEntries"]),
+        Layout::Context => turn(
+            raw,
+            &[b"ContextKeyName", b"ContextKeyType", b"ContextKeyValues"],
+        ),
     }
 }
 
@@ -102,10 +53,9 @@ pub fn slots(s: &[u8], v: usize, layout: Layout) -> [usize; 6]
     loop {
         match m {
             Member::Named { name, end, value } => {
-                let k = which(&s[name..end], layout);
-                if k == 0 {
+                let Some(k) = which(&s[name..end], layout) else {
                     return places;
-                }
+                };
                 if places[k] != 0 {
                     return places;
                 }

@@ -10,40 +10,36 @@ ghost use Rattle.parts.specs.Holding.{Holds, HoldsTo};
 ghost use Rattle.parts.specs.Room.{Holdable, HoldableSlot};
 
 use crate::holding;
-use crate::holding::{Ended, Held};
+use crate::holding::Ended;
 use text::walk;
-use text::walk::Element;
+use text::walk::{Element, Kind};
 
 // The one string of the list that stands at a place.
-pub fn hold_sole(s: &[u8], v: usize, run: &mut [u32], at: usize) -> Ended
+pub fn hold_sole(s: &[u8], v: usize, run: &mut [u32], at: usize) -> Option<Ended>
     requires { Holdable s.now v run.old at 0 }
     ensures { (t : Json) (e : ℕ) → Stands s.now t v e → HoldsTo held_text run.old run.new at (only_one characters_of t) e result }
 {
-    if !holding::is_list(walk::kind_at(s, v)) {
-        return Ended::Wrong;
+    if walk::kind_at(s, v) != Kind::List {
+        return None;
     }
-    let m = walk::first_element(s, v);
-    let Element::At(i) = m else {
-        return Ended::Wrong;
+    let Element::At(i) = walk::first_element(s, v) else {
+        return None;
     };
-    let h = holding::hold_string(s, i, run, at);
-    let Ended::Past { past, end } = h else {
-        return Ended::Wrong;
+    let Ended { past, end } = holding::hold_string(s, i, run, at)?;
+    let Element::Past(end) = walk::next_element(s, end) else {
+        return None;
     };
-    let n = walk::next_element(s, end);
-    let Element::Past(e) = n else {
-        return Ended::Wrong;
-    };
-    Ended::Past { past: past, end: e }
+    Some(Ended { past, end })
 }
 
 // The one string of a member's list; a place of 0 is an absent member.
-pub fn hold_only(s: &[u8], v: usize, run: &mut [u32], at: usize) -> Held
+pub fn hold_only(s: &[u8], v: usize, run: &mut [u32], at: usize) -> Option<usize>
     requires { HoldableSlot s.now v run.old at 0 }
     ensures { (x : Slot) → Placed s.now v x → Holds held_text run.old run.new at (required (only_one characters_of) x) result }
 {
     if v == 0 {
-        return Held::Wrong;
+        return None;
     }
-    holding::past_of(hold_sole(s, v, run, at))
+    let Ended { past, .. } = hold_sole(s, v, run, at)?;
+    Some(past)
 }

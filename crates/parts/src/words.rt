@@ -6,16 +6,15 @@ ghost use Rattle.syntax.specs.Words.{edition_word};
 ghost use Rattle.syntax.specs.Members.{is_word};
 ghost use Rattle.syntax.specs.PolicyLayout.{effect_of, operator_of};
 ghost use Rattle.parts.specs.Spoken.{told_effect, operator_is, told_operator};
-ghost use Rattle.parts.specs.Requests.{type_named, TypesTo};
+ghost use Rattle.parts.specs.Requests.{type_named, number_of_type, TypesTo};
 ghost use Rattle.held.specs.Held.{operator_number};
 
-use crate::holding;
+use text::walk::{Kind, Span};
 
 #[derive(Clone, Copy)]
 pub enum Effect {
     Allow,
     Deny,
-    Wrong,
 }
 
 #[derive(Clone, Copy)]
@@ -25,18 +24,43 @@ pub enum Operator {
     NumericLessThanEquals,
 }
 
-// An operator; or a name that is none.
-#[derive(Clone, Copy)]
-pub enum Word {
-    Is(Operator),
-    Wrong,
+impl Operator {
+    // The number that stands for it in a held run.
+    pub fn number(self) -> u32
+        ensures { result ≡ operator_number (operator_is self) }
+    {
+        match self {
+            Operator::StringEquals => 1,
+            Operator::StringLike => 2,
+            Operator::NumericLessThanEquals => 3,
+        }
+    }
 }
 
-// The type that a context entry names, 1 a text, 2 a number, by a string that ends before `end`; or it names none.
+// The types of a context entry's value.
 #[derive(Clone, Copy)]
-pub enum Typed {
-    Is { kind: u32, end: usize },
-    Wrong,
+pub enum ValueType {
+    Text,
+    Number,
+}
+
+impl ValueType {
+    // The number that stands for it in a held run.
+    pub fn number(self) -> u32
+        ensures { result ≡ number_of_type self }
+    {
+        match self {
+            ValueType::Text => 1,
+            ValueType::Number => 2,
+        }
+    }
+}
+
+// The type that a context entry names, by a string that ends before `end`.
+#[derive(Clone, Copy)]
+pub struct Typed {
+    pub kind: ValueType,
+    pub end: usize,
 }
 
 // Is the value at a place a string, and this word?
@@ -44,12 +68,10 @@ pub fn is_word(s: &[u8], v: usize, w: &[u8]) -> bool
     requires { Standing s.now v }
     ensures { (t : Json) (e : ℕ) → Stands s.now t v e → result ≡ is_word w.now t }
 {
-    if !holding::is_text(text::walk::kind_at(s, v)) {
+    if text::walk::kind_at(s, v) != Kind::Text {
         return false;
     }
-    let q = text::walk::quoted(s, v);
-    let from = q.from;
-    let to = q.to;
+    let Span { from, to } = text::walk::quoted(s, v);
     chars::strings::same(&s[from..to], w)
 }
 
@@ -61,75 +83,54 @@ pub fn is_edition(s: &[u8], v: usize) -> bool
     is_word(s, v, b"2012-10-17")
 }
 
-pub fn effect_at(s: &[u8], v: usize) -> Effect
+pub fn effect_at(s: &[u8], v: usize) -> Option<Effect>
     requires { Standing s.now v }
     ensures { (t : Json) (e : ℕ) → Stands s.now t v e → told_effect result ≡ effect_of t }
 {
     if is_word(s, v, b"Allow") {
-        return Effect::Allow;
+        return Some(Effect::Allow);
     }
-    if is_word(s, v, b"Deny") {
-        return Effect::Deny;
-    }
-    Effect::Wrong
+    is_word(s, v, b"Deny").then_some(Effect::Deny)
 }
 
 // The operator that a raw name is.
-pub fn operator_named(raw: &[u8]) -> Word
+pub fn operator_named(raw: &[u8]) -> Option<Operator>
     ensures { told_operator result ≡ operator_of raw.now }
 {
     if chars::strings::same(raw, b"StringEquals") {
-        return Word::Is(Operator::StringEquals);
+        return Some(Operator::StringEquals);
     }
     if chars::strings::same(raw, b"StringLike") {
-        return Word::Is(Operator::StringLike);
+        return Some(Operator::StringLike);
     }
     if chars::strings::same(raw, b"NumericLessThanEquals") {
-        return Word::Is(Operator::NumericLessThanEquals);
+        return Some(Operator::NumericLessThanEquals);
     }
-    Word::Wrong
+    None
 }
 
-pub fn operator_number(o: Operator) -> u32
-    ensures { result ≡ operator_number (operator_is o) }
-{
-    match o {
-        Operator::StringEquals => 1,
-        Operator::StringLike => 2,
-        Operator::NumericLessThanEquals => 3,
-    }
-}
-
-// The type that a raw string names; 0 where it names none.
-fn type_named(raw: &[u8]) -> u32
+// The type that a raw string names.
+fn type_named(raw: &[u8]) -> Option<ValueType>
     ensures { result ≡ type_named (string raw.now) }
 {
     if chars::strings::same(raw, b"string") {
-        return 1;
+        return Some(ValueType::Text);
     }
     if chars::strings::same(raw, b"numeric") {
-        return 2;
+        return Some(ValueType::Number);
     }
-    0
+    None
 }
 
 // The type that the value at a place names.
-pub fn type_at(s: &[u8], v: usize) -> Typed
+pub fn type_at(s: &[u8], v: usize) -> Option<Typed>
     requires { Standing s.now v }
     ensures { (t : Json) (e : ℕ) → Stands s.now t v e → TypesTo t e result }
 {
-    if !holding::is_text(text::walk::kind_at(s, v)) {
-        return Typed::Wrong;
+    if text::walk::kind_at(s, v) != Kind::Text {
+        return None;
     }
-    let q = text::walk::quoted(s, v);
-    let from = q.from;
-    let to = q.to;
-    let kind = type_named(&s[from..to]);
-    if kind == 0 {
-        return Typed::Wrong;
-    }
-    Typed::Is {
-        kind: kind,
-        end: to + 1,
-    }
+    let Span { from, to } = text::walk::quoted(s, v);
+    let kind = type_named(&s[from..to])?;
+    Some(Typed { kind, end: to + 1 })
 }

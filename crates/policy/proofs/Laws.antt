@@ -2,6 +2,7 @@ pub mod Apart
 pub mod Collecting
 pub mod Rows
 pub mod Groups
+pub mod Lending
 pub mod Operators
 pub mod Reading
 pub mod Onward

@@ -2,4 +2,3 @@
 pub mod Refusals
 pub mod Reading
 pub mod Statements
-pub mod Unfit

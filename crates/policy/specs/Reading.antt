@@ -4,13 +4,15 @@
 --   Says k s x         by the rules k the bytes s come to x: a refusal, or what was read
 --   Answers k h s run r   an answer tells what s comes to, and the run holds what was read as h holds it
 --   Foretells s r         a refusal that is told before a run is made is what the policy text s comes to
+--   told r                the outcome that an operation answers
 -- Differs from 01: nowhere.  Pinned by: `says_some` and `says_unique` of Laws/Reading: bytes come to one outcome.
-use Rattle.std.specs.Prelude.{◌≡◌, List, ℕ, ◌+◌, ◌≤◌, ◌<◌, length, take}
+use Rattle.std.specs.Prelude.{◌≡◌, List, ℕ, ◌+◌, ◌≤◌, ◌<◌, length, take, Result, Ok, Err}
+use Rattle.std.specs.Borrow.{MutBor}
+use Rattle.std.specs.Fn.{Mut, CalledAtMut}
 use Rattle.chars.specs.Base.{pick}
 use Rattle.text.specs.Json.{Json, levels}
 use Rattle.text.specs.Verdicts.{Text, BreaksAt, Sinks}
 use Rattle.text.specs.Machine.{verdict}
-use Rattle.text.specs.declared.verdict.Verdict.TheVariants.{Whole}
 use Rattle.syntax.specs.Limits.{policy_bytes, record_bytes, run_numbers}
 use Rattle.syntax.specs.Policy.{Policy, Request}
 use Rattle.syntax.specs.Forms.{Reading, wrong, read}
@@ -21,10 +23,8 @@ use Rattle.policy.specs.declared.refusals.Refusal.{Refusal}
 use Rattle.policy.specs.declared.refusals.Refusal.TheVariants.{PolicyLength, PolicyText, PolicyLayout}
 use Rattle.policy.specs.declared.refusals.Refusal.TheVariants.{PolicyLimit, RecordLength, RecordText}
 use Rattle.policy.specs.declared.refusals.Refusal.TheVariants.{RecordLayout}
-use Rattle.policy.specs.declared.reading.Read.{Read}
-use Rattle.policy.specs.declared.reading.Read.TheVariants as R
-use Rattle.policy.specs.declared.soon.Early.{Early}
-use Rattle.policy.specs.declared.soon.Early.TheVariants as E
+use Rattle.policy.specs.declared.soon.Look.{Look}
+use Rattle.policy.specs.declared.soon.Look.TheVariants as L
 
 -- a refusal, or what was read
 pub data Outcome (A : Type 0) : Type 0 where
@@ -87,22 +87,43 @@ pub record Knows {A : Type 0} (k : Rules A) (h : A → List ℕ) (s run : List �
   pub is : take n run ≡ h thing
   pub inside : n ≤ length run
 
-abbrev pub Answers : {A : Type 0} → Rules A → (A → List ℕ) → List ℕ → List ℕ → Read → Type 0
-Answers k h s run (R.Held n) = Knows k h s run n
-Answers k h s run (R.Refused f) = Says k s (refused f)
+abbrev pub Answers : {A : Type 0} → Rules A → (A → List ℕ) → List ℕ → List ℕ → Result ℕ Refusal → Type 0
+Answers k h s run (Ok n) = Knows k h s run n
+Answers k h s run (Err f) = Says k s (refused f)
 
-abbrev pub Foretells : List ℕ → Early → Type 0
-Foretells s (E.Refused f) = Says policy_rules s (refused f)
-Foretells s E.Usual = Unit {0}
-Foretells s E.Whole = verdict s ≡ Whole
+abbrev pub Foretells : List ℕ → Result Look Refusal → Type 0
+Foretells s (Err f) = Says policy_rules s (refused f)
+Foretells s (Ok L.Usual) = Unit {0}
+Foretells s (Ok L.Whole) = verdict s ≡ Ok tt
+
+-- an operation's answer is its outcome
+abbrev pub told : {A : Type 0} → Result A Refusal → Outcome A
+told (Ok x) = known x
+told (Err f) = refused f
 
 -- a run long enough for a text that is not too long
 pub record Lent (most extra : ℕ) (s run : List ℕ) : Type 0 where
   pub enough : length s ≤ most → length s + extra ≤ length run
   pub bounded : length run ≤ run_numbers
 
+-- f was called, and lent a run of n numbers
+pub record Lends {F R : Type 0} (g : Mut F (MutBor (List ℕ) × Unit {0}) (R × (MutBor (List ℕ) × Unit {0})))
+    (n : ℕ) (f : F) (r : R) (f' : F) : Type 0 where
+  pub run : List ℕ
+  pub after : List ℕ
+  pub size : length run ≡ n
+  pub called : CalledAtMut g f run r f' after
+
+-- f was called, and lent such a run
+pub record LendsRun {F R : Type 0} (g : Mut F (MutBor (List ℕ) × Unit {0}) (R × (MutBor (List ℕ) × Unit {0})))
+    (most extra : ℕ) (s : List ℕ) (f : F) (r : R) (f' : F) : Type 0 where
+  pub run : List ℕ
+  pub after : List ℕ
+  pub lent : Lent most extra s run
+  pub called : CalledAtMut g f run r f' after
+
 -- and the text is whole and not too long
 pub record Fit (most extra : ℕ) (s run : List ℕ) : Type 0 where
-  pub whole : verdict s ≡ Whole
+  pub whole : verdict s ≡ Ok tt
   pub short : length s ≤ most
   pub lent : Lent most extra s run

@@ -1,8 +1,10 @@
 -- Refusals: document 01, "Numbered refusals": each case's number, its place, and the order in which they are given.
 --   number_of r, place_of r   the number and the place that a refusal carries
+--   refusal_text r          the text that is printed of it
 --   rank r                  its turn: where several apply, the one of the least rank is given, in every operation
 -- Differs from 01: nowhere.
-use Rattle.std.specs.Prelude.{ℕ}
+use Rattle.std.specs.Prelude.{List, ℕ, ◌++◌, codes}
+use Rattle.std.specs.Fmt.{decimal}
 use Rattle.policy.specs.declared.refusals.Refusal.{Refusal}
 use Rattle.policy.specs.declared.refusals.Refusal.TheVariants.{RoomLength, PolicyLength, PolicyText}
 use Rattle.policy.specs.declared.refusals.Refusal.TheVariants.{PolicyLayout, PolicyLimit, RoomContent}
@@ -41,3 +43,7 @@ place_of OutputLength = 0
 -- the order is the numbers' order; it has a name of its own since later requests put refusals between these
 abbrev pub rank : Refusal → ℕ
 rank r = number_of r
+
+-- as the program prints it
+abbrev pub refusal_text : Refusal → List ℕ
+refusal_text r = codes "refused " ++ decimal (number_of r) ++ codes " at " ++ decimal (place_of r)

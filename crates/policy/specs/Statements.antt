@@ -1,30 +1,24 @@
 -- Statements: what the contracts of `statements` cite besides the layout and the held form.
---   effect_told x        the number that tells an effect; 0 where it is wrong
 --   parts_of i x r c     what a statement has besides its effect, from the values of its members
 --   statements_of t      one statement or a list of at least one, no two with the same Sid
 --   Adds k v t e .. r   what a member of a policy is to those before it, by its word's turn k
 --   Frames s v r        a value without a policy's members is told, and one with them is an object
 --   HoldableParts ..    so do all that parts_of reads
 --   HoldablePolicy ..   a value stands at a place, and the run is at most one number shorter than its cost
-use Rattle.std.specs.Prelude.{◌≡◌, Bool, true, false, List, [], ◌++◌, ℕ, ◌+◌, ◌≤◌, length}
+use Rattle.std.specs.Prelude.{◌≡◌, Bool, true, false, List, [], ◌++◌, ℕ, ◌+◌, ◌≤◌, length, Option, Some, None}
 use Rattle.text.specs.Json.{Json}
 use Rattle.text.specs.Contents.{Stands, kind_of}
 use Rattle.syntax.specs.Limits.{run_numbers}
-use Rattle.syntax.specs.Policy.{Effect, Row, Policy}
+use Rattle.syntax.specs.Policy.{Row, Policy}
 use Rattle.syntax.specs.Forms.{Reading, wrong, read}
 use Rattle.syntax.specs.Words.{edition_word}
 use Rattle.syntax.specs.Members.{then, is_word, Slot, optional, one_or_more, differing}
 use Rattle.parts.specs.Slots.{Placed}
 use Rattle.syntax.specs.PolicyLayout.{action_of, resource_of, condition_of, sid_of, statement_of, same_sid, policy_of}
-use Rattle.held.specs.Held.{held_text, held_list, held_row, effect_number, held}
+use Rattle.held.specs.Held.{held_text, held_list, held_row, held}
 use Rattle.parts.specs.Room.{cost, cost_of, Roomy}
 use Rattle.parts.specs.Holding.{Laid, is_object}
 use Rattle.policy.specs.declared.statements.Partly.{Partly}
-use Rattle.policy.specs.declared.statements.Partly.TheVariants as Y
-
-abbrev pub effect_told : Reading Effect → ℕ
-effect_told wrong = 0
-effect_told (read e) = effect_number e
 
 -- ---- the parts of a statement
 
@@ -69,10 +63,9 @@ pub data Breaks (k : ℕ) (t : Json) (version past : ℕ) : Type 0 where
   statement_again : (k ≡ 0 → ⊥) → (k ≡ 1 → ⊥) → (past ≡ 0 → ⊥) → Breaks k t version past
   statement_wrong : (k ≡ 0 → ⊥) → (k ≡ 1 → ⊥) → past ≡ 0 → statements_of t ≡ wrong → Breaks k t version past
 
-abbrev pub Adds : ℕ → ℕ → Json → ℕ → List ℕ → List ℕ → ℕ → ℕ → Partly → Type 0
-Adds k v t e run run' version past (Y.So version' past' q) =
-    (Takes k v t run run' version past version' past') × (q ≡ e)
-Adds k v t e run run' version past Y.Wrong = (length run' ≡ length run) × (Breaks k t version past)
+abbrev pub Adds : ℕ → ℕ → Json → ℕ → List ℕ → List ℕ → ℕ → ℕ → Option Partly → Type 0
+Adds k v t e run run' version past (Some r) = (Takes k v t run run' version past r.version r.past) × (r.end ≡ e)
+Adds k v t e run run' version past None = (length run' ≡ length run) × (Breaks k t version past)
 
 pub record Frames (s : List ℕ) (v : ℕ) (r : Bool) : Type 0 where
   pub not : r ≡ false → (t : Json) (e : ℕ) → Stands s t v e → policy_of t ≡ wrong

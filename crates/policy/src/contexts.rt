@@ -11,195 +11,156 @@ ghost use Rattle.parts.specs.Holding.{Holds, HoldsTo, GathersTo};
 ghost use Rattle.parts.specs.Requests.{Placing, type_of, typed_as};
 
 use held::limits;
-use parts::holding::{Ended, Held, Listed};
+use parts::holding::{Ended, Listed};
 use parts::members::Layout;
-use parts::words::Typed;
+use parts::words::ValueType;
 use parts::{holding, members, sole, words};
 use syntax::numbers;
-use syntax::numbers::Number;
 use text::walk;
-use text::walk::Element;
+use text::walk::{Element, Kind};
 
 // The key name that stands at a place.
-fn hold_name(s: &[u8], v: usize, run: &mut [u32], at: usize) -> Ended
+fn hold_name(s: &[u8], v: usize, run: &mut [u32], at: usize) -> Option<Ended>
     requires { Holdable s.now v run.old at 0 }
     ensures { (t : Json) (e : ℕ) → Stands s.now t v e → HoldsTo held_text run.old run.new at (key_name_of t) e result }
 {
-    let h = holding::hold_string(s, v, run, at);
-    let Ended::Past { past, end } = h else {
-        return Ended::Wrong;
-    };
+    let h = holding::hold_string(s, v, run, at)?;
     let first = at + 1;
-    if !straight::forms::is_key_name(&run[first..past]) {
-        return Ended::Wrong;
+    if !straight::forms::is_key_name(&run[first..h.past]) {
+        return None;
     }
-    Ended::Past {
-        past: past,
-        end: end,
-    }
+    Some(h)
 }
 
 // The key name of a member; a place of 0 is an absent one.
-fn hold_key_name(s: &[u8], v: usize, run: &mut [u32], at: usize) -> Held
+fn hold_key_name(s: &[u8], v: usize, run: &mut [u32], at: usize) -> Option<usize>
     requires { HoldableSlot s.now v run.old at 0 }
     ensures { (x : Slot) → Placed s.now v x → Holds held_text run.old run.new at (required key_name_of x) result }
 {
     if v == 0 {
-        return Held::Wrong;
+        return None;
     }
-    holding::past_of(hold_name(s, v, run, at))
+    let Ended { past, .. } = hold_name(s, v, run, at)?;
+    Some(past)
 }
 
-// The type that a member names: 1 a text, 2 a number; 0 where it names none.
-fn type_at(s: &[u8], v: usize) -> u32
+// The type that a member names.
+fn type_at(s: &[u8], v: usize) -> Option<ValueType>
     requires { Placing s.now v }
     ensures { (x : Slot) → Placed s.now v x → result ≡ type_of x }
 {
     if v == 0 {
-        return 0;
+        return None;
     }
-    let k = words::type_at(s, v);
-    match k {
-        Typed::Is { kind, end: _ } => kind,
-        Typed::Wrong => 0,
-    }
+    let t = words::type_at(s, v)?;
+    Some(t.kind)
 }
 
 // The value of a type that stands at a place, as a list of one string.
-fn hold_value(s: &[u8], v: usize, run: &mut [u32], at: usize, kind: u32) -> Ended
+fn hold_value(s: &[u8], v: usize, run: &mut [u32], at: usize, kind: ValueType) -> Option<Ended>
     requires { Holdable s.now v run.old at 0 }
     ensures { (t : Json) (e : ℕ) → Stands s.now t v e → HoldsTo held_value run.old run.new at (then (only_one characters_of t) (typed_as kind)) e result }
 {
-    let h = sole::hold_sole(s, v, run, at);
-    let Ended::Past { past, end } = h else {
-        return Ended::Wrong;
-    };
+    let h = sole::hold_sole(s, v, run, at)?;
     let first = at + 1;
-    if kind == 1 {
-        if limits::ENTRY < past - first {
-            return Ended::Wrong;
+    match kind {
+        ValueType::Text => {
+            if limits::ENTRY < h.past - first {
+                return None;
+            }
+            Some(h)
         }
-        return Ended::Past {
-            past: past,
-            end: end,
-        };
-    }
-    let k = numbers::number_in(&run[first..past]);
-    let Number::Is(n) = k else {
-        return Ended::Wrong;
-    };
-    Ended::Past {
-        past: holding::put_number(run, at, n),
-        end: end,
+        ValueType::Number => {
+            let n = numbers::number_in(&run[first..h.past])?;
+            Some(Ended {
+                past: holding::put_number(run, at, n),
+                end: h.end,
+            })
+        }
     }
 }
 
 // The value of a context entry, by the type that it names; a place of 0 is an absent one.
-fn hold_typed(s: &[u8], v: usize, run: &mut [u32], at: usize, kind: u32) -> Held
+fn hold_typed(s: &[u8], v: usize, run: &mut [u32], at: usize, kind: ValueType) -> Option<usize>
     requires { HoldableSlot s.now v run.old at 0 }
     ensures { (x : Slot) → Placed s.now v x → Holds held_value run.old run.new at (then (required (only_one characters_of) x) (typed_as kind)) result }
 {
     if v == 0 {
-        return Held::Wrong;
+        return None;
     }
-    holding::past_of(hold_value(s, v, run, at, kind))
+    let Ended { past, .. } = hold_value(s, v, run, at, kind)?;
+    Some(past)
 }
 
 // A context entry: its type, its key and its value.
-fn hold_context(s: &[u8], v: usize, run: &mut [u32], at: usize) -> Ended
+fn hold_context(s: &[u8], v: usize, run: &mut [u32], at: usize) -> Option<Ended>
     requires { Holdable s.now v run.old at 0 }
     ensures { (t : Json) (e : ℕ) → Stands s.now t v e → HoldsTo held_context run.old run.new at (context_of t) e result }
 {
-    if !holding::is_object(walk::kind_at(s, v)) {
-        return Ended::Wrong;
+    if walk::kind_at(s, v) != Kind::Object {
+        return None;
     }
     let places = members::slots(s, v, Layout::Context);
     let end = places[0];
     if end == 0 {
-        return Ended::Wrong;
+        return None;
     }
-    let h = hold_key_name(s, places[1], run, at + 1);
-    let Held::Past(p) = h else {
-        return Ended::Wrong;
-    };
-    let kind = type_at(s, places[2]);
-    if kind == 0 {
-        return Ended::Wrong;
-    }
-    run[at] = kind;
-    let g = hold_typed(s, places[3], run, p, kind);
-    let Held::Past(past) = g else {
-        return Ended::Wrong;
-    };
-    Ended::Past {
-        past: past,
-        end: end,
-    }
+    let p = hold_key_name(s, places[1], run, at + 1)?;
+    let kind = type_at(s, places[2])?;
+    run[at] = kind.number();
+    let past = hold_typed(s, places[3], run, p, kind)?;
+    Some(Ended { past, end })
 }
 
 // The context entries of the list that stands at a place, no two of them with one key.
-fn hold_differing(s: &[u8], v: usize, run: &mut [u32], at: usize) -> Listed
+fn hold_differing(s: &[u8], v: usize, run: &mut [u32], at: usize) -> Option<Listed>
     requires { HoldableList s.now v run.old at }
     ensures { (ts : Values) (e : ℕ) → Stands s.now (list ts) v e → GathersTo held_context run.old run.new at (then (each context_of ts) (differing same_context)) e result }
 {
     let mut m = walk::first_element(s, v);
-    let mut p = at;
-    let mut n = 0usize;
+    let mut past = at;
+    let mut count = 0usize;
     loop {
         match m {
-            Element::Past(e) => {
-                return Listed::Several {
-                    past: p,
-                    end: e,
-                    count: n,
-                };
-            }
+            Element::Past(end) => return Some(Listed { past, end, count }),
             Element::At(i) => {
-                let h = hold_context(s, i, run, p);
-                let Ended::Past { past, end } = h else {
-                    return Listed::Wrong;
-                };
-                if straight::keys::has_context_key(run, at, n, p) {
-                    return Listed::Wrong;
+                let h = hold_context(s, i, run, past)?;
+                if straight::keys::has_context_key(run, at, count, past) {
+                    return None;
                 }
-                p = past;
-                n = n + 1;
-                m = walk::next_element(s, end);
+                past = h.past;
+                count += 1;
+                m = walk::next_element(s, h.end);
             }
         }
     }
 }
 
 // The context entries that stand at a place, behind their number.
-fn hold_listed(s: &[u8], v: usize, run: &mut [u32], at: usize) -> Ended
+fn hold_listed(s: &[u8], v: usize, run: &mut [u32], at: usize) -> Option<Ended>
     requires { Holdable s.now v run.old at 1 }
     ensures { (t : Json) (e : ℕ) → Stands s.now t v e → HoldsTo (held_list held_context) run.old run.new at (contexts_of t) e result }
 {
-    if !holding::is_list(walk::kind_at(s, v)) {
-        return Ended::Wrong;
+    if walk::kind_at(s, v) != Kind::List {
+        return None;
     }
-    let c = hold_differing(s, v, run, at + 1);
-    let Listed::Several { past, end, count } = c else {
-        return Ended::Wrong;
-    };
+    let Listed { past, end, count } = hold_differing(s, v, run, at + 1)?;
     if limits::CONTEXTS < count {
-        return Ended::Wrong;
+        return None;
     }
     run[at] = count as u32;
-    Ended::Past {
-        past: past,
-        end: end,
-    }
+    Some(Ended { past, end })
 }
 
 // The context entries of a member, behind their number; there are none where it is absent.
-pub fn hold_contexts(s: &[u8], v: usize, run: &mut [u32], at: usize) -> Held
+pub fn hold_contexts(s: &[u8], v: usize, run: &mut [u32], at: usize) -> Option<usize>
     requires { HoldableSlot s.now v run.old at 1 }
     ensures { (x : Slot) → Placed s.now v x → Holds (held_list held_context) run.old run.new at (optional [] contexts_of x) result }
 {
     if v == 0 {
         run[at] = 0;
-        return Held::Past(at + 1);
+        return Some(at + 1);
     }
-    holding::past_of(hold_listed(s, v, run, at))
+    let Ended { past, .. } = hold_listed(s, v, run, at)?;
+    Some(past)
 }

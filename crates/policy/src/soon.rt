@@ -7,16 +7,16 @@ use crate::refusals::Refusal;
 use crate::{reading, statements};
 use held::limits;
 use straight::marks;
-use text::verdict::Verdict;
+use text::fault::Fault;
 use text::{scan, walk, white};
 
 // So far from a text's end another Version is looked for.
 const NEAR: usize = 64;
 
-// A refusal; or the text looks as a policy does; or it does not, and is whole. In the last two cases it has to be read.
+// What a text that is not refused is told to be: it looks as a policy does; or it does not, and is whole. Either has to be
+// read.
 #[derive(Clone, Copy)]
-pub enum Early {
-    Refused(Refusal),
+pub enum Look {
     Usual,
     Whole,
 }
@@ -25,52 +25,36 @@ pub enum Early {
 fn trimmed(s: &[u8]) -> usize
     ensures { result ≤ length s.now }
 {
-    let mut n = s.len();
-    while 0 < n {
-        if !white::blank(s[n - 1]) {
-            return n;
-        }
-        n -= 1;
+    match s.iter().rposition(|b| !white::blank(*b)) {
+        Some(last) => last + 1,
+        None => 0,
     }
-    n
 }
 
 // Does the name of a member Version stand at a place, with another value than the only one?
 fn is_other_edition(s: &[u8], at: usize) -> bool {
-    let v = marks::named(s, at, b"Version");
-    if v == 0 {
-        return false;
+    match marks::named(s, at, b"Version") {
+        Some(v) => marks::quote(s, v, b"2012-10-17").is_none(),
+        None => false,
     }
-    marks::quote(s, v, b"2012-10-17") == 0
 }
 
-// The place before the last letter V near the end of a text that ends at n, or n.
+// The place before the last letter V, but for a first, near the end of a text that ends at n; or n.
 fn before_letter(s: &[u8], n: usize) -> usize
     requires { n ≤ length s.now }
 {
-    let mut i = n;
-    let mut left = NEAR;
-    while 0 < left {
-        if i < 2 {
-            return n;
-        }
-        i -= 1;
-        if s[i] == 86 {
-            return i - 1;
-        }
-        left -= 1;
+    let from = n.saturating_sub(NEAR).max(1).min(n);
+    match s[from..n].iter().rposition(|b| *b == b'V') {
+        Some(i) => from + i - 1,
+        None => n,
     }
-    n
 }
 
 // Is another Version the last member of a text that ends at n?
 fn ends_otherwise(s: &[u8], n: usize) -> bool
     requires { n ≤ length s.now }
 {
-    if n < 13 {
-        return false;
-    }
-    if marks::quote(s, n - 13, b"2012-10-17") != 0 {
+    if n < 13 || marks::quote(s, n - 13, b"2012-10-17").is_some() {
         return false;
     }
     is_other_edition(s, before_letter(s, n))
@@ -83,57 +67,49 @@ fn is_odd(s: &[u8]) -> bool {
         return true;
     }
     let n = trimmed(s);
-    if n == 0 {
+    if n == 0 || s[n - 1] != b'}' {
         return true;
     }
-    if s[n - 1] != 125 {
+    let Some(i) = marks::opened(s, scan::space(s, 0), b'{') else {
+        return true;
+    };
+    if s.len() <= i || s[i] != b'"' {
         return true;
     }
-    let i = marks::opened(s, scan::space(s, 0), 123);
-    if i == 0 {
-        return true;
-    }
-    if s.len() <= i {
-        return true;
-    }
-    if s[i] != 34 {
-        return true;
-    }
-    if marks::named(s, i, b"Version") != 0 {
+    if marks::named(s, i, b"Version").is_some() {
         return is_other_edition(s, i);
     }
     ends_otherwise(s, n)
 }
 
 // What is told of a text by its length, its grammar and the policy's own members.
-fn judged(s: &[u8]) -> Early
+fn judged(s: &[u8]) -> Result<Look, Refusal>
     ensures { Foretells s.now result }
 {
     if s.len() > limits::POLICY {
-        return Early::Refused(Refusal::PolicyLength);
+        return Err(Refusal::PolicyLength);
     }
-    let v = scan::scan(s);
-    match v {
-        Verdict::Whole => {
+    match scan::scan(s) {
+        Ok(()) => {
             if statements::is_framed(s, walk::root(s)) {
-                return Early::Whole;
+                return Ok(Look::Whole);
             }
-            Early::Refused(Refusal::PolicyLayout)
+            Err(Refusal::PolicyLayout)
         }
-        Verdict::Breaks(p) => Early::Refused(Refusal::PolicyText(p)),
-        Verdict::Deep => Early::Refused(Refusal::PolicyLayout),
+        Err(Fault::Breaks(p)) => Err(Refusal::PolicyText(p)),
+        Err(Fault::Deep) => Err(Refusal::PolicyLayout),
     }
 }
 
 // The least texts, which cost less to read, count as usual; any other that does not look as a policy does is judged.
-pub fn soon(s: &[u8]) -> Early
+pub fn soon(s: &[u8]) -> Result<Look, Refusal>
     ensures { Foretells s.now result }
 {
     if s.len() <= reading::LEAST {
-        return Early::Usual;
+        return Ok(Look::Usual);
     }
     if !is_odd(s) {
-        return Early::Usual;
+        return Ok(Look::Usual);
     }
     judged(s)
 }

@@ -1,81 +1,71 @@
 // A policy's statements, read where they stand and held in a run.
-ghost use Rattle.std.specs.Prelude.{◌≡◌, false, [], ℕ};
+ghost use Rattle.std.specs.Prelude.{◌≡◌, ◌<◌, false, [], ℕ};
 ghost use Rattle.text.specs.Json.{Json, Values, Members, list, object};
 ghost use Rattle.text.specs.Contents.{Stands, Standing, StandingObject};
 ghost use Rattle.syntax.specs.Forms.{wrong};
 ghost use Rattle.syntax.specs.Members.{then, Slot, optional, each, one_or_more, differing};
 ghost use Rattle.parts.specs.Slots.{Placed};
 ghost use Rattle.syntax.specs.PolicyLayout.{sid_of, condition_of, statement_of, same_sid, policy_of};
-ghost use Rattle.held.specs.Held.{held_text, held_list, held_row, held_statement, held};
+ghost use Rattle.held.specs.Held.{effect_number, held_text, held_list, held_row, held_statement, held};
 ghost use Rattle.parts.specs.Room.{Holdable, HoldableList, HoldableObject, HoldableSlot};
-ghost use Rattle.parts.specs.Spoken.{told_effect};
+ghost use Rattle.parts.specs.Spoken.{effect_is};
 ghost use Rattle.parts.specs.Holding.{Holds, HoldsTo, GathersTo};
-ghost use Rattle.policy.specs.Statements.{effect_told, parts_of, held_parts, Adds};
+ghost use Rattle.policy.specs.Statements.{parts_of, held_parts, Adds};
 ghost use Rattle.policy.specs.Statements.{HoldableParts, HoldablePolicy, Frames};
 
 use crate::rows;
 use held::runs;
 use parts::entries::Entry;
-use parts::holding::{Ended, Held, Listed};
+use parts::holding::{Ended, Listed};
 use parts::members::Layout;
 use parts::words::Effect;
-use parts::{entries, holding, members, words};
+use parts::{entries, members, words};
 use text::walk;
-use text::walk::{Element, Member};
+use text::walk::{Element, Kind, Member};
 
 // A policy's members so far: where Version's value stands, and before which place of the run ends what was held of
-// Statement; 0 for one that has not come. The last of them ends before `end` in the text. Or there is no policy.
+// Statement; 0 for one that has not come. The last of them ends before `end` in the text.
 #[derive(Clone, Copy)]
-pub enum Partly {
-    So {
-        version: usize,
-        past: usize,
-        end: usize,
-    },
-    Wrong,
+pub struct Partly {
+    pub version: usize,
+    pub past: usize,
+    pub end: usize,
 }
 
-// The number that tells an effect, 0 for one that is wrong.
+// The number that tells an effect.
 fn effect_number(e: Effect) -> u32
-    ensures { result ≡ effect_told (told_effect e) }
+    ensures { result ≡ effect_number (effect_is e) }
 {
     match e {
         Effect::Allow => 1,
         Effect::Deny => 2,
-        Effect::Wrong => 0,
     }
 }
 
 // A Sid that stands at a place, or at 0 none: a text of no characters.
-fn hold_sid_at(s: &[u8], v: usize, run: &mut [u32], at: usize) -> Held
+fn hold_sid_at(s: &[u8], v: usize, run: &mut [u32], at: usize) -> Option<usize>
     requires { HoldableSlot s.now v run.old at 1 }
     ensures { (x : Slot) → Placed s.now v x → Holds held_text run.old run.new at (optional [] sid_of x) result }
 {
     if v == 0 {
         run[at] = 0;
-        return Held::Past(at + 1);
+        return Some(at + 1);
     }
-    let h = entries::hold_sid(s, v, run, at);
-    let Ended::Past { past, .. } = h else {
-        return Held::Wrong;
-    };
-    Held::Past(past)
+    let Ended { past, .. } = entries::hold_sid(s, v, run, at)?;
+    Some(past)
 }
 
 // A condition that stands at a place, or at 0 none: no rows.
-fn hold_condition_at(s: &[u8], v: usize, run: &mut [u32], at: usize) -> Held
+fn hold_condition_at(s: &[u8], v: usize, run: &mut [u32], at: usize) -> Option<usize>
     requires { HoldableSlot s.now v run.old at 1 }
     ensures { (x : Slot) → Placed s.now v x → Holds (held_list held_row) run.old run.new at (optional [] condition_of x) result }
 {
     if v == 0 {
         run[at] = 0;
-        return Held::Past(at + 1);
+        return Some(at + 1);
     }
-    let h = rows::hold_condition(s, v, run, at);
-    let Ended::Past { past, .. } = h else {
-        return Held::Wrong;
-    };
-    Held::Past(past)
+    let Ended { past, .. } = rows::hold_condition(s, v, run, at)?;
+    Some(past)
 }
 
 // What a statement has besides its effect, from the places of its members.
@@ -87,171 +77,136 @@ fn hold_parts(
     condition: usize,
     run: &mut [u32],
     at: usize,
-) -> Held
+) -> Option<usize>
     requires { HoldableParts s.now sid action resource condition run.old at }
     ensures { (i c : Slot) (x y : Json) (e f : ℕ) → Placed s.now sid i → Stands s.now x action e → Stands s.now y resource f → Placed s.now condition c → Holds held_parts run.old run.new at (parts_of i x y c) result }
 {
-    let h = hold_sid_at(s, sid, run, at);
-    let Held::Past(p) = h else {
-        return Held::Wrong;
-    };
-    let g = entries::hold_entries(s, action, run, p, Entry::Action);
-    let Ended::Past { past: q, .. } = g else {
-        return Held::Wrong;
-    };
-    let k = entries::hold_entries(s, resource, run, q, Entry::Resource);
-    let Ended::Past { past: u, .. } = k else {
-        return Held::Wrong;
-    };
-    hold_condition_at(s, condition, run, u)
+    let p = hold_sid_at(s, sid, run, at)?;
+    let g = entries::hold_entries(s, action, run, p, Entry::Action)?;
+    let k = entries::hold_entries(s, resource, run, g.past, Entry::Resource)?;
+    hold_condition_at(s, condition, run, k.past)
 }
 
 // The statement that an object is.
-fn hold_object(s: &[u8], v: usize, run: &mut [u32], at: usize) -> Ended
+fn hold_object(s: &[u8], v: usize, run: &mut [u32], at: usize) -> Option<Ended>
     requires { HoldableObject s.now v run.old at }
     ensures { (ms : Members) (e : ℕ) → Stands s.now (object ms) v e → HoldsTo held_statement run.old run.new at (statement_of (object ms)) e result }
 {
     let places = members::slots(s, v, Layout::Statement);
     let end = places[0];
     if end == 0 {
-        return Ended::Wrong;
+        return None;
     }
     let effect = places[2];
     if effect == 0 {
-        return Ended::Wrong;
+        return None;
     }
     let action = places[3];
     if action == 0 {
-        return Ended::Wrong;
+        return None;
     }
     let resource = places[4];
     if resource == 0 {
-        return Ended::Wrong;
+        return None;
     }
-    let n = effect_number(words::effect_at(s, effect));
-    if n == 0 {
-        return Ended::Wrong;
-    }
+    let e = words::effect_at(s, effect)?;
     let first = at + 1;
-    let h = hold_parts(s, places[1], action, resource, places[5], run, first);
-    let Held::Past(p) = h else {
-        return Ended::Wrong;
-    };
-    run[at] = n;
-    Ended::Past { past: p, end: end }
+    let past = hold_parts(s, places[1], action, resource, places[5], run, first)?;
+    run[at] = effect_number(e);
+    Some(Ended { past, end })
 }
 
 // The statement that stands at a place.
-fn hold_statement(s: &[u8], v: usize, run: &mut [u32], at: usize) -> Ended
+fn hold_statement(s: &[u8], v: usize, run: &mut [u32], at: usize) -> Option<Ended>
     requires { Holdable s.now v run.old at 0 }
     ensures { (t : Json) (e : ℕ) → Stands s.now t v e → HoldsTo held_statement run.old run.new at (statement_of t) e result }
 {
-    if !holding::is_object(walk::kind_at(s, v)) {
-        return Ended::Wrong;
+    if walk::kind_at(s, v) != Kind::Object {
+        return None;
     }
     hold_object(s, v, run, at)
 }
 
 // The statements of the list that stands at a place; no two have the same Sid.
-fn hold_statements(s: &[u8], v: usize, run: &mut [u32], at: usize) -> Listed
+fn hold_statements(s: &[u8], v: usize, run: &mut [u32], at: usize) -> Option<Listed>
     requires { HoldableList s.now v run.old at }
     ensures { (ts : Values) (e : ℕ) → Stands s.now (list ts) v e → GathersTo held_statement run.old run.new at (then (each statement_of ts) (differing same_sid)) e result }
 {
     let mut m = walk::first_element(s, v);
-    let mut p = at;
-    let mut n = 0usize;
+    let mut past = at;
+    let mut count = 0usize;
     loop {
         match m {
             Element::At(i) => {
-                let h = hold_statement(s, i, run, p);
-                let Ended::Past { past, end } = h else {
-                    return Listed::Wrong;
-                };
-                if runs::has_sid(run, at, n, p) {
-                    return Listed::Wrong;
+                let h = hold_statement(s, i, run, past)?;
+                if runs::has_sid(run, at, count, past) {
+                    return None;
                 }
-                p = past;
-                n = n + 1;
-                m = walk::next_element(s, end);
+                past = h.past;
+                count += 1;
+                m = walk::next_element(s, h.end);
             }
-            Element::Past(e) => {
-                return Listed::Several {
-                    past: p,
-                    end: e,
-                    count: n,
-                };
-            }
+            Element::Past(end) => return Some(Listed { past, end, count }),
         }
     }
 }
 
 // One statement or a list of at least one, behind their number.
-fn hold_several(s: &[u8], v: usize, run: &mut [u32]) -> Ended
+fn hold_several(s: &[u8], v: usize, run: &mut [u32]) -> Option<Ended>
     requires { Holdable s.now v run.old 0 1 }
     ensures { (t : Json) (e : ℕ) → Stands s.now t v e → HoldsTo held run.old run.new 0 (then (one_or_more statement_of t) (differing same_sid)) e result }
 {
-    if !holding::is_list(walk::kind_at(s, v)) {
-        let h = hold_statement(s, v, run, 1);
-        let Ended::Past { past, end } = h else {
-            return Ended::Wrong;
-        };
+    if walk::kind_at(s, v) != Kind::List {
+        let h = hold_statement(s, v, run, 1)?;
         run[0] = 1;
-        return Ended::Past {
-            past: past,
-            end: end,
-        };
+        return Some(h);
     }
-    let c = hold_statements(s, v, run, 1);
-    let Listed::Several { past, end, count } = c else {
-        return Ended::Wrong;
-    };
+    let Listed { past, end, count } = hold_statements(s, v, run, 1)?;
     if count == 0 {
-        return Ended::Wrong;
+        return None;
     }
     run[0] = count as u32;
-    Ended::Past {
-        past: past,
-        end: end,
-    }
+    Some(Ended { past, end })
 }
 
 // One more member of a policy, by its word's turn `k`, beside what came before it; neither word comes twice.
-fn hold_member(s: &[u8], k: usize, v: usize, run: &mut [u32], version: usize, past: usize) -> Partly
-    requires { Holdable s.now v run.old 0 1 }
+fn hold_member(
+    s: &[u8],
+    k: usize,
+    v: usize,
+    run: &mut [u32],
+    version: usize,
+    past: usize,
+) -> Option<Partly>
+    requires { (0 < k) × (Holdable s.now v run.old 0 1) }
     ensures { (t : Json) (e : ℕ) → Stands s.now t v e → Adds k v t e run.old run.new version past result }
 {
-    if k == 0 {
-        return Partly::Wrong;
-    }
     if k == 1 {
         if version != 0 {
-            return Partly::Wrong;
+            return None;
         }
         if !words::is_edition(s, v) {
-            return Partly::Wrong;
+            return None;
         }
-        return Partly::So {
+        return Some(Partly {
             version: v,
-            past: past,
+            past,
             end: walk::past_value(s, v),
-        };
+        });
     }
     if past != 0 {
-        return Partly::Wrong;
+        return None;
     }
-    let h = hold_several(s, v, run);
-    let Ended::Past { past: p, end } = h else {
-        return Partly::Wrong;
-    };
-    Partly::So {
-        version: version,
-        past: p,
-        end: end,
-    }
+    let h = hold_several(s, v, run)?;
+    Some(Partly {
+        version,
+        past: h.past,
+        end: h.end,
+    })
 }
 
 // The policy that an object is, from the run's beginning on: each member is held where the walk comes to it.
-fn hold_members(s: &[u8], v: usize, run: &mut [u32]) -> Held
+fn hold_members(s: &[u8], v: usize, run: &mut [u32]) -> Option<usize>
     requires { HoldableObject s.now v run.old 1 }
     ensures { (ms : Members) (e : ℕ) → Stands s.now (object ms) v e → Holds held run.old run.new 0 (policy_of (object ms)) result }
 {
@@ -261,26 +216,18 @@ fn hold_members(s: &[u8], v: usize, run: &mut [u32]) -> Held
     loop {
         let Member::Named { name, end, value } = m else {
             if version == 0 {
-                return Held::Wrong;
+                return None;
             }
             if past == 0 {
-                return Held::Wrong;
+                return None;
             }
-            return Held::Past(past);
+            return Some(past);
         };
-        let k = members::which(&s[name..end], Layout::Policy);
-        let h = hold_member(s, k, value, run, version, past);
-        let Partly::So {
-            version: w,
-            past: p,
-            end: e,
-        } = h
-        else {
-            return Held::Wrong;
-        };
-        version = w;
-        past = p;
-        m = walk::next_member(s, e);
+        let k = members::which(&s[name..end], Layout::Policy)?;
+        let h = hold_member(s, k, value, run, version, past)?;
+        version = h.version;
+        past = h.past;
+        m = walk::next_member(s, h.end);
     }
 }
 
@@ -293,7 +240,10 @@ fn begins_right(s: &[u8], v: usize) -> bool
     let Member::Named { name, end, value } = m else {
         return true;
     };
-    if members::which(&s[name..end], Layout::Policy) != 1 {
+    let Some(turn) = members::which(&s[name..end], Layout::Policy) else {
+        return true;
+    };
+    if turn != 1 {
         return true;
     }
     words::is_edition(s, value)
@@ -323,19 +273,19 @@ pub fn is_framed(s: &[u8], v: usize) -> bool
     requires { Standing s.now v }
     ensures { Frames s.now v result }
 {
-    if !holding::is_object(walk::kind_at(s, v)) {
+    if walk::kind_at(s, v) != Kind::Object {
         return false;
     }
     has_frame(s, v)
 }
 
 // The policy that stands at a place, from the run's beginning on.
-pub fn hold_policy(s: &[u8], v: usize, run: &mut [u32]) -> Held
+pub fn hold_policy(s: &[u8], v: usize, run: &mut [u32]) -> Option<usize>
     requires { HoldablePolicy s.now v run.old }
     ensures { (t : Json) (e : ℕ) → Stands s.now t v e → Holds held run.old run.new 0 (policy_of t) result }
 {
     if !is_framed(s, v) {
-        return Held::Wrong;
+        return None;
     }
     hold_members(s, v, run)
 }

@@ -6,8 +6,8 @@ ghost use Rattle.held.specs.Held.{held, held_request};
 ghost use Rattle.policy.specs.Reading.{policy_rules, record_rules};
 ghost use Rattle.policy_probe.specs.Numbers.{of_read, Tells};
 
-use policy::reading::Read;
-use policy::{reading, refusals};
+use policy::reading;
+use policy::refusals::Refusal;
 
 // A refusal's number and its place; or 0, 0, and how many numbers of the run hold what was read.
 #[repr(C)]
@@ -20,30 +20,20 @@ pub struct Told {
 
 const RUN: usize = 16384;
 
-fn wide(n: u32) -> u64
-    ensures { result ≡ n }
-{
-    n as u64
-}
-
-fn numbers(r: Read) -> Told
+fn numbers(r: Result<usize, Refusal>) -> Told
     ensures { result ≡ of_read r }
 {
     match r {
-        Read::Held(n) => Told {
+        Ok(n) => Told {
             refusal: 0,
             place: 0,
             count: n,
         },
-        Read::Refused(f) => {
-            let n = refusals::number(f);
-            let p = refusals::place(f);
-            Told {
-                refusal: wide(n),
-                place: p,
-                count: 0,
-            }
-        }
+        Err(f) => Told {
+            refusal: u64::from(f.number()),
+            place: f.place(),
+            count: 0,
+        },
     }
 }
 
@@ -58,8 +48,7 @@ pub extern "C" fn policy_probe_policy(s: &[u8], run: &mut [u32]) -> Told
             count: 0,
         };
     }
-    let r = reading::read_policy(s, run);
-    numbers(r)
+    numbers(reading::read_policy(s, run))
 }
 
 #[unsafe(no_mangle)]
@@ -73,6 +62,5 @@ pub extern "C" fn policy_probe_record(s: &[u8], run: &mut [u32]) -> Told
             count: 0,
         };
     }
-    let r = reading::read_record(s, run);
-    numbers(r)
+    numbers(reading::read_record(s, run))
 }

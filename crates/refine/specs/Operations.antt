@@ -5,7 +5,7 @@
 --   Finishes p room out x after  the same of an output, which takes the refined policy
 --   freshened room               of Fresh: done, and zeros; or 1, and the room
 -- Differs from 01: nowhere.  Pinned by: Laws/Operations (no two outcomes).
-use Rattle.std.specs.Prelude.{◌≡◌, Bool, true, false, List, ℕ, eqb, length, replicate}
+use Rattle.std.specs.Prelude.{◌≡◌, Bool, true, false, List, ℕ, eqb, length, replicate, Result, Ok, Err}
 use Rattle.chars.specs.Base.{pick}
 use Rattle.syntax.specs.Policy.{Policy, Request}
 use Rattle.policy.specs.Reading.{Outcome, refused, known, policy_rules, record_rules, Says}
@@ -17,8 +17,6 @@ use Rattle.writing.specs.WrittenForm.{written_policy}
 use Rattle.restate.specs.Operations.{handed}
 use Rattle.rooms.specs.Rooms.{slots, fits, charges, fed, met}
 use Rattle.refined.specs.Finishing.{refined_policy, has_allow}
-use Rattle.refine.specs.declared.operations.Answer.{Answer}
-use Rattle.refine.specs.declared.operations.Answer.TheVariants as A
 
 abbrev pub room_numbers : ℕ
 room_numbers = 16384
@@ -75,6 +73,6 @@ pub data Finishes (policy room out : List ℕ) : Outcome ℕ → List ℕ → Ty
 unfoldable pub freshened : List ℕ → Outcome Done × List ℕ
 freshened room = pick (is_room room) (known done, replicate room_numbers 0) (refused RoomLength, room)
 
-abbrev pub told_done : Answer → Outcome Done
-told_done A.Done = known done
-told_done (A.Refused f) = refused f
+abbrev pub told_done : Result Unit Refusal → Outcome Done
+told_done (Ok tt) = known done
+told_done (Err f) = refused f

@@ -2,13 +2,12 @@
 ghost use Rattle.std.specs.Prelude.{◌≡◌};
 ghost use Rattle.decide.specs.Operations as deciding;
 ghost use Rattle.restate.specs.Operations as writing;
+ghost use Rattle.policy.specs.Reading.{told};
 ghost use Rattle.refine.specs.Operations.{Feeds, Joins, Finishes, freshened, told_done};
-ghost use Rattle.refine.specs.Exports.{of_refusal, of_decision, of_decided, of_written, of_done, Replies};
+ghost use Rattle.refine.specs.Exports.{reply, of_refusal, of_decision, of_decided, of_written, of_done, Replies};
 
 use crate::operations;
-use crate::operations::Answer;
 use decision::deciding::Decision;
-use policy::refusals;
 use policy::refusals::Refusal;
 
 // A refusal's number and its place; or 0, 0, and what the operation answers: a decision, 1 allowed, 2 explicitly denied,
@@ -22,84 +21,67 @@ pub struct Reply {
     pub detail: usize,
 }
 
-fn wide(n: u32) -> u64
-    ensures { result ≡ n }
+// A decision's number, 0 where there is none, and what is told beside it.
+fn answered(decision: u64, detail: usize) -> Reply
+    ensures { result ≡ reply 0 0 decision detail }
 {
-    n as u64
-}
-
-fn of_refusal(f: Refusal) -> Reply
-    ensures { result ≡ of_refusal f }
-{
-    let n = refusals::number(f);
-    let p = refusals::place(f);
     Reply {
-        number: wide(n),
-        place: p,
-        decision: 0,
-        detail: 0,
+        number: 0,
+        place: 0,
+        decision,
+        detail,
     }
 }
 
-fn of_decision(d: Decision) -> Reply
-    ensures { result ≡ of_decision d }
-{
-    match d {
-        Decision::Allowed(n) => Reply {
-            number: 0,
-            place: 0,
-            decision: 1,
-            detail: n,
-        },
-        Decision::Denied(n) => Reply {
-            number: 0,
-            place: 0,
-            decision: 2,
-            detail: n,
-        },
-        Decision::Implicit => Reply {
-            number: 0,
-            place: 0,
-            decision: 3,
-            detail: 0,
-        },
-    }
-}
+impl From<Refusal> for Reply {
+    ghost from_gives = { λ f r. r ≡ of_refusal f };
 
-fn of_decided(a: decide::operations::Answer) -> Reply
-    ensures { result ≡ of_decided (deciding.told_answer a) }
-{
-    match a {
-        decide::operations::Answer::Decided(d) => of_decision(d),
-        decide::operations::Answer::Refused(f) => of_refusal(f),
-    }
-}
-
-fn of_written(a: restate::operations::Answer) -> Reply
-    ensures { result ≡ of_written (writing.told_answer a) }
-{
-    match a {
-        restate::operations::Answer::Written(n) => Reply {
-            number: 0,
-            place: 0,
+    fn from(f: Refusal) -> Reply {
+        Reply {
+            number: u64::from(f.number()),
+            place: f.place(),
             decision: 0,
-            detail: n,
-        },
-        restate::operations::Answer::Refused(f) => of_refusal(f),
+            detail: 0,
+        }
     }
 }
 
-fn of_done(a: Answer) -> Reply
+impl From<Decision> for Reply {
+    ghost from_gives = { λ d r. r ≡ of_decision d };
+
+    fn from(d: Decision) -> Reply {
+        match d {
+            Decision::Allowed(n) => answered(1, n),
+            Decision::Denied(n) => answered(2, n),
+            Decision::Implicit => answered(3, 0),
+        }
+    }
+}
+
+fn of_decided(a: Result<Decision, Refusal>) -> Reply
+    ensures { result ≡ of_decided (told a) }
+{
+    match a {
+        Ok(d) => Reply::from(d),
+        Err(f) => Reply::from(f),
+    }
+}
+
+fn of_written(a: Result<usize, Refusal>) -> Reply
+    ensures { result ≡ of_written (told a) }
+{
+    match a {
+        Ok(n) => answered(0, n),
+        Err(f) => Reply::from(f),
+    }
+}
+
+fn of_done(a: Result<(), Refusal>) -> Reply
     ensures { result ≡ of_done (told_done a) }
 {
     match a {
-        Answer::Done => Reply {
-            number: 0,
-            place: 0,
-            decision: 0,
-            detail: 0,
-        },
-        Answer::Refused(f) => of_refusal(f),
+        Ok(()) => answered(0, 0),
+        Err(f) => Reply::from(f),
     }
 }
 

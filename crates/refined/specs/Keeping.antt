@@ -11,11 +11,11 @@ use Rattle.syntax.specs.Policy.{Allow, Deny, Value, text, number, Row, Statement
 use Rattle.held.specs.Held.{mark, held_value, held_statement, held}
 use Rattle.held.specs.Lying.{Lies}
 use Rattle.decision.specs.Decision.{same_effect}
+use Rattle.writing.specs.declared.sink.Sink.{Sink}
 use Rattle.writing.specs.Showing.{Adds}
 use Rattle.writing.specs.Bytes.{listed}
 use Rattle.candidates.specs.Candidates.{Candidate, itself, single, under, up_to, Content, empty, holds}
 use Rattle.candidates.specs.Rows.{row_numbers, text_characters, row}
-use Rattle.refined.specs.declared.finishing.Reached.{Reached}
 use Rattle.refined.specs.Finishing.{kept, kept_statement, is_whole}
 
 abbrev pub from : List ℕ → ℕ → List ℕ
@@ -138,8 +138,7 @@ left s ns = pick (same_effect s.effect Allow) (kept_statement s ns) s
 abbrev pub is_left : Statement → List ℕ → Bool
 is_left s ns = pick (same_effect s.effect Allow) (is_whole (kept_statement s ns)) true
 
--- those of xs, as f has them, stand behind k others: how far, and how many in all
-pub record Reaches {A : Type 0} (f : A → List ℕ) (xs : List A) (out : List ℕ) (o k : ℕ) (r : Reached) (after : List ℕ)
-    : Type 0 where
-  pub adds : Adds (listed f k xs) out o r.next after
-  pub count : r.count ≡ k + length xs
+-- those of xs, as f has them, are added behind k others, and are n in all
+pub record Reaches {A : Type 0} (f : A → List ℕ) (xs : List A) (k n : ℕ) (u v : Sink) : Type 0 where
+  pub adds : Adds (listed f k xs) u v
+  pub count : n ≡ k + length xs

@@ -20,14 +20,8 @@ ghost use Rattle.refined.specs.Keeping.{statement_values, policy_values, kept_ro
 use candidates::rows;
 use held::{limits, places, runs};
 use syntax::forms;
-use writing::{entries, sink, statements};
-
-// The place behind what is written, and how many things stand there.
-#[derive(Clone, Copy)]
-pub struct Reached {
-    pub next: usize,
-    pub count: usize,
-}
+use writing::sink::Sink;
+use writing::{entries, statements};
 
 // A row that holds a beginning, as one that holds the beginning and its star as a text.
 fn put_star(row: &[u32], held: &mut [u32])
@@ -42,171 +36,126 @@ fn put_star(row: &[u32], held: &mut [u32])
 }
 
 // The beginning that a row holds, and its star.
-fn put_beginning(kind: u32, row: &[u32], out: &mut [u8], o: usize) -> usize
+fn put_beginning(kind: u32, row: &[u32], sink: &mut Sink)
     requires { Begun row.now }
-    ensures { (y : Begun row.now) → Adds (entry_bytes kind (text (y.text ++ (star ∷ [])))) out.old o result out.new }
+    ensures { (y : Begun row.now) → Adds (entry_bytes kind (text (y.text ++ (star ∷ [])))) sink.old sink.new }
 {
-    let mut held = [0u32; 256];
+    let mut held = [0u32; rows::NUMBERS];
     put_star(row, &mut held);
-    entries::put_entry(kind, &held, 1, out, o)
+    entries::put_entry(kind, &held, 1, sink);
 }
 
 // The number that a row holds.
-fn put_bound(kind: u32, row: &[u32], out: &mut [u8], o: usize) -> usize
+fn put_bound(kind: u32, row: &[u32], sink: &mut Sink)
     requires { Bounded row.now }
-    ensures { (y : Bounded row.now) → Adds (entry_bytes kind (number y.number)) out.old o result out.new }
+    ensures { (y : Bounded row.now) → Adds (entry_bytes kind (number y.number)) sink.old sink.new }
 {
     let mut held = [0u32; 2];
     held[0] = limits::MARK + row[1];
     held[1] = row[2];
-    entries::put_entry(kind, &held, 0, out, o)
+    entries::put_entry(kind, &held, 0, sink);
 }
 
 // The entry at a place, as what its row holds.
-fn put_kept(kind: u32, run: &[u32], e: usize, row: &[u32], out: &mut [u8], o: usize) -> usize
+fn put_kept(kind: u32, run: &[u32], e: usize, row: &[u32], sink: &mut Sink)
     requires { HeldEntry run.now e row.now }
-    ensures { (y : HeldEntry run.now e row.now) → Adds (entry_bytes kind (refined y.entry y.candidate)) out.old o result out.new }
+    ensures { (y : HeldEntry run.now e row.now) → Adds (entry_bytes kind (refined y.entry y.candidate)) sink.old sink.new }
 {
-    if row[0] == rows::ITSELF {
-        return entries::put_entry(kind, run, e, out, o);
+    match row[0] {
+        rows::ITSELF => entries::put_entry(kind, run, e, sink),
+        rows::SINGLE => entries::put_entry(kind, row, 1, sink),
+        rows::BEGINNING => put_beginning(kind, row, sink),
+        _ => put_bound(kind, row, sink),
     }
-    if row[0] == rows::SINGLE {
-        return entries::put_entry(kind, row, 1, out, o);
-    }
-    if row[0] == rows::BEGINNING {
-        return put_beginning(kind, row, out, o);
-    }
-    put_bound(kind, row, out, o)
 }
 
-// The entry at a place behind k others, if its row holds something.
-fn put_next(
-    kind: u32,
-    run: &[u32],
-    e: usize,
-    row: &[u32],
-    out: &mut [u8],
-    o: usize,
-    k: usize,
-) -> Reached
+// The entry at a place behind k others, if its row holds something: how many they are then.
+fn put_next(kind: u32, run: &[u32], e: usize, row: &[u32], sink: &mut Sink, k: usize) -> usize
     requires { (KeptEntry run.now e row.now) × (k < run_numbers) }
-    ensures { (y : KeptEntry run.now e row.now) → Reaches (entry_bytes kind) (kept_by (content_of row.now) y.entry []) out.old o k result out.new }
+    ensures { (y : KeptEntry run.now e row.now) → Reaches (entry_bytes kind) (kept_by (content_of row.now) y.entry []) k result sink.old sink.new }
 {
     if row[0] == rows::EMPTY {
-        return Reached { next: o, count: k };
+        return k;
     }
-    let before = sink::put_between(out, o, k);
-    let next = put_kept(kind, run, e, row, out, before);
-    Reached {
-        next: next,
-        count: k + 1,
-    }
+    sink.put_between(k);
+    put_kept(kind, run, e, row, sink);
+    k + 1
 }
 
 // The entries of the list at a place whose rows hold something, the first one's being row s.
-fn put_kept_list(
-    kind: u32,
-    run: &[u32],
-    at: usize,
-    room: &[u32],
-    s: usize,
-    out: &mut [u8],
-    o: usize,
-) -> usize
+fn put_kept_list(kind: u32, run: &[u32], at: usize, room: &[u32], s: usize, sink: &mut Sink)
     requires { Kept (held_list held_value) entries_of run.now at room.now s }
-    ensures { (y : Kept (held_list held_value) entries_of run.now at room.now s) → Adds (list_bytes kind (kept y.thing (from room.now s))) out.old o result out.new }
+    ensures { (y : Kept (held_list held_value) entries_of run.now at room.now s) → Adds (list_bytes kind (kept y.thing (from room.now s))) sink.old sink.new }
 {
     let n = run[at] as usize;
-    let mut next = sink::put(out, o, 91);
+    sink.put(b'[');
     let mut e = at + 1;
     let mut j = s;
     let mut k = 0usize;
-    let mut i = 0usize;
-    while i < n {
+    for i in 0..n {
         let a = j * rows::NUMBERS;
         let to = a + rows::NUMBERS;
-        let r = put_next(kind, run, e, &room[a..to], out, next, k);
-        next = r.next;
-        k = r.count;
+        k = put_next(kind, run, e, &room[a..to], sink, k);
         e = places::past_value(run, e);
-        j = j + 1;
-        i = i + 1;
+        j += 1;
     }
-    sink::put(out, next, 93)
+    sink.put(b']');
 }
 
-fn put_kept_row(run: &[u32], p: usize, room: &[u32], s: usize, out: &mut [u8], o: usize) -> usize
+fn put_kept_row(run: &[u32], p: usize, room: &[u32], s: usize, sink: &mut Sink)
     requires { Kept held_row row_entries_of run.now p room.now s }
-    ensures { (y : Kept held_row row_entries_of run.now p room.now s) → Adds (row_bytes (kept_row y.thing (from room.now s))) out.old o result out.new }
+    ensures { (y : Kept held_row row_entries_of run.now p room.now s) → Adds (row_bytes (kept_row y.thing (from room.now s))) sink.old sink.new }
 {
-    let named = writing::rows::put_key(run, p, out, o);
+    writing::rows::put_key(run, p, sink);
     let at = places::behind_label(run, p);
-    put_kept_list(run[p], run, at, room, s, out, named)
+    put_kept_list(run[p], run, at, room, s, sink);
 }
 
 // The rows of the list at a place, without what ends the last.
-fn put_kept_rows(run: &[u32], at: usize, room: &[u32], s: usize, out: &mut [u8], o: usize) -> usize
+fn put_kept_rows(run: &[u32], at: usize, room: &[u32], s: usize, sink: &mut Sink)
     requires { Kept (held_list held_row) row_values run.now at room.now s }
-    ensures { (y : Kept (held_list held_row) row_values run.now at room.now s) → Adds (rows_from 0 (kept_rows y.thing (from room.now s))) out.old o result out.new }
+    ensures { (y : Kept (held_list held_row) row_values run.now at room.now s) → Adds (rows_from 0 (kept_rows y.thing (from room.now s))) sink.old sink.new }
 {
     let n = run[at] as usize;
-    let mut next = o;
     let mut last = 0u32;
     let mut p = at + 1;
     let mut a = s;
-    let mut i = 0usize;
-    while i < n {
-        let before = writing::rows::put_turning(out, next, last, run[p]);
-        next = put_kept_row(run, p, room, a, out, before);
+    for i in 0..n {
+        writing::rows::put_turning(sink, last, run[p]);
+        put_kept_row(run, p, room, a, sink);
         last = run[p];
         let r = runs::row(run, p);
         p = r.past;
-        a = a + r.entries;
-        i = i + 1;
+        a += r.entries;
     }
-    next
 }
 
-fn put_kept_condition(
-    run: &[u32],
-    at: usize,
-    room: &[u32],
-    s: usize,
-    out: &mut [u8],
-    o: usize,
-) -> usize
+fn put_kept_condition(run: &[u32], at: usize, room: &[u32], s: usize, sink: &mut Sink)
     requires { Kept (held_list held_row) row_values run.now at room.now s }
-    ensures { (y : Kept (held_list held_row) row_values run.now at room.now s) → Adds (condition_bytes (kept_rows y.thing (from room.now s))) out.old o result out.new }
+    ensures { (y : Kept (held_list held_row) row_values run.now at room.now s) → Adds (condition_bytes (kept_rows y.thing (from room.now s))) sink.old sink.new }
 {
     if run[at] == 0 {
-        return o;
+        return;
     }
-    let open = sink::put_bytes(out, o, b",\"Condition\":{");
-    let rows = put_kept_rows(run, at, room, s, out, open);
-    sink::put_bytes(out, rows, b"}}")
+    sink.put_bytes(b",\"Condition\":{");
+    put_kept_rows(run, at, room, s, sink);
+    sink.put_bytes(b"}}");
 }
 
-fn put_kept_statement(
-    run: &[u32],
-    p: usize,
-    room: &[u32],
-    s: usize,
-    out: &mut [u8],
-    o: usize,
-) -> usize
+fn put_kept_statement(run: &[u32], p: usize, room: &[u32], s: usize, sink: &mut Sink)
     requires { Kept held_statement statement_values run.now p room.now s }
-    ensures { (y : Kept held_statement statement_values run.now p room.now s) → Adds (statement_bytes (kept_statement y.thing (from room.now s))) out.old o result out.new }
+    ensures { (y : Kept held_statement statement_values run.now p room.now s) → Adds (statement_bytes (kept_statement y.thing (from room.now s))) sink.old sink.new }
 {
-    let action = statements::put_head(run, p, out, o);
+    statements::put_head(run, p, sink);
     let a = places::behind_label(run, p);
-    let actions = put_kept_list(0, run, a, room, s, out, action);
-    let resource = sink::put_bytes(out, actions, b",\"Resource\":");
+    put_kept_list(0, run, a, room, s, sink);
+    sink.put_bytes(b",\"Resource\":");
     let l = runs::list(run, a);
     let t = s + l.entries;
-    let resources = put_kept_list(2, run, l.past, room, t, out, resource);
+    put_kept_list(2, run, l.past, room, t, sink);
     let m = runs::list(run, l.past);
-    let condition = put_kept_condition(run, m.past, room, t + m.entries, out, resources);
-    sink::put(out, condition, 125)
+    put_kept_condition(run, m.past, room, t + m.entries, sink);
+    sink.put(b'}');
 }
 
 // Holds one of n rows something, from row s on?
@@ -215,13 +164,11 @@ fn has_some(room: &[u32], s: usize, n: usize) -> bool
     ensures { (xs : List Value) → n ≡ length xs → result ≡ has_some (kept xs (from room.now s)) }
 {
     let mut j = s;
-    let mut i = 0usize;
-    while i < n {
+    for i in 0..n {
         if room[j * rows::NUMBERS] != rows::EMPTY {
             return true;
         }
-        j = j + 1;
-        i = i + 1;
+        j += 1;
     }
     false
 }
@@ -234,15 +181,13 @@ fn rows_some(run: &[u32], at: usize, room: &[u32], s: usize) -> bool
     let n = run[at] as usize;
     let mut p = at + 1;
     let mut a = s;
-    let mut i = 0usize;
-    while i < n {
+    for i in 0..n {
         let r = runs::row(run, p);
         if !has_some(room, a, r.entries) {
             return false;
         }
         p = r.past;
-        a = a + r.entries;
-        i = i + 1;
+        a += r.entries;
     }
     true
 }
@@ -269,45 +214,31 @@ fn is_left(run: &[u32], p: usize, room: &[u32], s: usize) -> bool
     requires { Ranged held_statement statement_values run.now p room.now s }
     ensures { (x : Statement) → Lies run.now p (held_statement x) → result ≡ is_left x (from room.now s) }
 {
-    if run[p] != 1 {
-        return true;
-    }
-    is_whole(run, p, room, s)
+    run[p] != 1 || is_whole(run, p, room, s)
 }
 
 // The statement at a place: refined, or a Deny whole.
-fn put_left(run: &[u32], p: usize, room: &[u32], s: usize, out: &mut [u8], o: usize) -> usize
+fn put_left(run: &[u32], p: usize, room: &[u32], s: usize, sink: &mut Sink)
     requires { KeptStatement run.now p room.now s }
-    ensures { (y : KeptStatement run.now p room.now s) → Adds (statement_bytes (left y.thing (from room.now s))) out.old o result out.new }
+    ensures { (y : KeptStatement run.now p room.now s) → Adds (statement_bytes (left y.thing (from room.now s))) sink.old sink.new }
 {
     if run[p] != 1 {
-        return statements::put_statement(run, p, out, o);
+        return statements::put_statement(run, p, sink);
     }
-    put_kept_statement(run, p, room, s, out, o)
+    put_kept_statement(run, p, room, s, sink);
 }
 
-// The statement at a place behind k others, if it is written.
-fn put_next_left(
-    run: &[u32],
-    p: usize,
-    room: &[u32],
-    s: usize,
-    out: &mut [u8],
-    o: usize,
-    k: usize,
-) -> Reached
+// The statement at a place behind k others, if it is written: how many they are then.
+fn put_next_left(run: &[u32], p: usize, room: &[u32], s: usize, sink: &mut Sink, k: usize) -> usize
     requires { (KeptStatement run.now p room.now s) × (k < run_numbers) }
-    ensures { (y : KeptStatement run.now p room.now s) → Reaches statement_bytes (left_by y.thing (from room.now s) []) out.old o k result out.new }
+    ensures { (y : KeptStatement run.now p room.now s) → Reaches statement_bytes (left_by y.thing (from room.now s) []) k result sink.old sink.new }
 {
     if !is_left(run, p, room, s) {
-        return Reached { next: o, count: k };
+        return k;
     }
-    let before = sink::put_between(out, o, k);
-    let next = put_left(run, p, room, s, out, before);
-    Reached {
-        next: next,
-        count: k + 1,
-    }
+    sink.put_between(k);
+    put_left(run, p, room, s, sink);
+    k + 1
 }
 
 // Is the statement at a place an Allow that is written?
@@ -315,10 +246,7 @@ fn is_allowed(run: &[u32], p: usize, room: &[u32], s: usize) -> bool
     requires { Ranged held_statement statement_values run.now p room.now s }
     ensures { (x : Statement) → Lies run.now p (held_statement x) → result ≡ has_allow (left_by x (from room.now s) []) }
 {
-    if run[p] != 1 {
-        return false;
-    }
-    is_whole(run, p, room, s)
+    run[p] == 1 && is_whole(run, p, room, s)
 }
 
 // Is an Allow statement written?
@@ -329,38 +257,32 @@ pub fn some_allowed(run: &[u32], room: &[u32]) -> bool
     let n = run[0] as usize;
     let mut p = 1usize;
     let mut s = 0usize;
-    let mut i = 0usize;
-    while i < n {
+    for i in 0..n {
         if is_allowed(run, p, room, s) {
             return true;
         }
         let q = runs::statement(run, p);
         p = q.past;
-        s = s + q.entries;
-        i = i + 1;
+        s += q.entries;
     }
     false
 }
 
 // The refined policy.
-pub fn put_refined(run: &[u32], room: &[u32], out: &mut [u8]) -> usize
+pub fn put_refined(run: &[u32], room: &[u32], sink: &mut Sink)
     requires { KeptPolicy run.now room.now }
-    ensures { (p : Policy) → Lies run.now 0 (held p) → WritPolicy p room.now → Adds (written_policy (refined_policy p room.now)) out.old 0 result out.new }
+    ensures { (p : Policy) → Lies run.now 0 (held p) → WritPolicy p room.now → Adds (written_policy (refined_policy p room.now)) sink.old sink.new }
 {
     let n = run[0] as usize;
-    let mut next = sink::put_bytes(out, 0, b"{\"Version\":\"2012-10-17\",\"Statement\":[");
+    sink.put_bytes(b"{\"Version\":\"2012-10-17\",\"Statement\":[");
     let mut p = 1usize;
     let mut s = 0usize;
     let mut k = 0usize;
-    let mut i = 0usize;
-    while i < n {
-        let r = put_next_left(run, p, room, s, out, next, k);
-        next = r.next;
-        k = r.count;
+    for i in 0..n {
+        k = put_next_left(run, p, room, s, sink, k);
         let q = runs::statement(run, p);
         p = q.past;
-        s = s + q.entries;
-        i = i + 1;
+        s += q.entries;
     }
-    sink::put_bytes(out, next, b"]}")
+    sink.put_bytes(b"]}");
 }

@@ -13,8 +13,6 @@ use Rattle.policy.specs.Reading.{Outcome, refused, known, policy_rules, Says}
 use Rattle.policy.specs.declared.refusals.Refusal.{Refusal}
 use Rattle.policy.specs.declared.refusals.Refusal.TheVariants.{ResultLength, OutputLength}
 use Rattle.writing.specs.WrittenForm.{written_policy}
-use Rattle.restate.specs.declared.operations.Answer.{Answer}
-use Rattle.restate.specs.declared.operations.Answer.TheVariants as A
 
 unfoldable pub handed : List ℕ → List ℕ → Outcome ℕ × List ℕ
 handed bs out =
@@ -26,7 +24,3 @@ pub data Restates (policy out : List ℕ) : Outcome ℕ → List ℕ → Type 0 
   policy_refused : {f : Refusal} → Says policy_rules policy (refused f) → Restates policy out (refused f) out
   restated : {p : Policy} {x : Outcome ℕ} {after : List ℕ} → Says policy_rules policy (known p)
       → (x, after) ≡ handed (written_policy p) out → Restates policy out x after
-
-abbrev pub told_answer : Answer → Outcome ℕ
-told_answer (A.Written n) = known n
-told_answer (A.Refused f) = refused f

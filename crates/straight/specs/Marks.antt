@@ -1,5 +1,5 @@
 -- Marks: what stands between the values of a text that is judged as it is walked over.
---   Unless r P        P, unless the answer r is 0
+--   Unless r P        P of the answer r, unless it is none
 --   Opened s b v r    the byte b at v, and all white space up to r
 --   Closed s b i r    white space from i on, the byte b, up to r
 --   Parted s b i r    white space from i on, the byte b, all white space up to r
@@ -7,15 +7,15 @@
 --   First s w v r     an object opens at v, and its first member has the name w
 --   Next s w i r      behind a member that ends at i another one has the name w
 --   all_bare w         every byte of w stands for itself in a string
-use Rattle.std.specs.Prelude.{◌≡◌, Bool, true, not, List, [], ◌∷◌, ℕ, ◌+◌, eqb, leb}
+use Rattle.std.specs.Prelude.{◌≡◌, Bool, true, not, List, [], ◌∷◌, ℕ, ◌+◌, eqb, leb, Option, Some}
 use Rattle.chars.specs.Base.{At}
 use Rattle.text.specs.Json.{Space, Quoted}
 use Rattle.text.specs.Machine.{ws}
 use Rattle.text.specs.Reading.{Done}
 use Rattle.syntax.specs.Forms.{both}
 
-pub record Unless (r : ℕ) (P : Type 0) : Type 0 where
-  pub found : (r ≡ 0 → ⊥) → P
+pub record Unless (r : Option ℕ) (P : ℕ → Type 0) : Type 0 where
+  pub found : (i : ℕ) → r ≡ Some i → P i
 
 pub record Opened (s : List ℕ) (b v r : ℕ) : Type 0 where
   pub at : At s v b

@@ -5,15 +5,13 @@
 --   TakesSeveral ..                    likewise several things, with their count
 --   TakesMember ..                     a member from the opening quote of its name on, read by f from its raw name
 --                                      and value
-use Rattle.std.specs.Prelude.{◌≡◌, List, ℕ, ◌+◌, ◌≤◌, length, true}
+use Rattle.std.specs.Prelude.{◌≡◌, List, ℕ, ◌+◌, ◌≤◌, length, true, Option, Some, None}
 use Rattle.chars.specs.Base.{part}
 use Rattle.text.specs.Json.{Json, Members, named, depth, a_value, members, more, Reads}
 use Rattle.syntax.specs.Forms.{Reading}
 use Rattle.parts.specs.Holding.{Extends, Laid, Gathered}
 use Rattle.parts.specs.declared.holding.Ended.{Ended}
-use Rattle.parts.specs.declared.holding.Ended.TheVariants as N
 use Rattle.parts.specs.declared.holding.Listed.{Listed}
-use Rattle.parts.specs.declared.holding.Listed.TheVariants as L
 use Rattle.straight.specs.Marks.{all_bare}
 
 pub record Taken {A : Type 0} (h : A → List ℕ) (f : Json → Reading A) (n : ℕ) (s run run' : List ℕ) (v at p e : ℕ)
@@ -23,10 +21,10 @@ pub record Taken {A : Type 0} (h : A → List ℕ) (f : Json → Reading A) (n :
   pub shallow : depth tree ≤ n
   pub laid : Laid h run run' at (f tree) p
 
-abbrev pub Takes : {A : Type 0} → (A → List ℕ) → (Json → Reading A) → ℕ → List ℕ → List ℕ → List ℕ → ℕ → ℕ → Ended
-    → Type 0
-Takes h f n s run run' v at (N.Past p e) = Taken h f n s run run' v at p e
-Takes h f n s run run' v at N.Wrong = length run' ≡ length run
+abbrev pub Takes : {A : Type 0} → (A → List ℕ) → (Json → Reading A) → ℕ → List ℕ → List ℕ → List ℕ → ℕ → ℕ
+    → Option Ended → Type 0
+Takes h f n s run run' v at (Some r) = Taken h f n s run run' v at r.past r.end
+Takes h f n s run run' v at None = length run' ≡ length run
 
 pub record TakenSeveral {A : Type 0} (h : A → List ℕ) (f : Json → Reading (List A)) (n : ℕ) (s run run' : List ℕ)
     (v at p e k : ℕ) : Type 0 where
@@ -36,9 +34,9 @@ pub record TakenSeveral {A : Type 0} (h : A → List ℕ) (f : Json → Reading 
   pub gathered : Gathered h run run' at (f tree) p k
 
 abbrev pub TakesSeveral : {A : Type 0} → (A → List ℕ) → (Json → Reading (List A)) → ℕ → List ℕ → List ℕ → List ℕ → ℕ
-    → ℕ → Listed → Type 0
-TakesSeveral h f n s run run' v at (L.Several p e k) = TakenSeveral h f n s run run' v at p e k
-TakesSeveral h f n s run run' v at L.Wrong = length run' ≡ length run
+    → ℕ → Option Listed → Type 0
+TakesSeveral h f n s run run' v at (Some r) = TakenSeveral h f n s run run' v at r.past r.end r.count
+TakesSeveral h f n s run run' v at None = length run' ≡ length run
 
 -- whatever follows the member, its object's members begin with it
 pub record TakenMember {A : Type 0} (h : A → List ℕ) (f : List ℕ → Json → Reading A) (n : ℕ) (s run run' : List ℕ)
@@ -52,9 +50,9 @@ pub record TakenMember {A : Type 0} (h : A → List ℕ) (f : List ℕ → Json 
   pub laid : Laid h run run' at (f raw tree) p
 
 abbrev pub TakesMember : {A : Type 0} → (A → List ℕ) → (List ℕ → Json → Reading A) → ℕ → List ℕ → List ℕ → List ℕ → ℕ
-    → ℕ → Ended → Type 0
-TakesMember h f n s run run' i at (N.Past p e) = TakenMember h f n s run run' i at p e
-TakesMember h f n s run run' i at N.Wrong = length run' ≡ length run
+    → ℕ → Option Ended → Type 0
+TakesMember h f n s run run' i at (Some r) = TakenMember h f n s run run' i at r.past r.end
+TakesMember h f n s run run' i at None = length run' ≡ length run
 
 -- bytes that stand for themselves, put one by one
 pub record Puts (s run run' : List ℕ) (at to n : ℕ) : Type 0 where

@@ -12,154 +12,117 @@ use parts::entries::Entry;
 use parts::holding;
 use parts::holding::{Ended, Listed};
 use parts::words::Operator;
-use syntax::numbers::Number;
-use syntax::symbols::Converted;
 use syntax::{forms, numbers, symbols};
-use text::verdict::Part;
 
 // More entries than a run has numbers are not counted.
 const MOST: usize = 16384;
 
-pub fn sid(s: &[u8], v: usize, run: &mut [u32], at: usize) -> Ended
+pub fn sid(s: &[u8], v: usize, run: &mut [u32], at: usize) -> Option<Ended>
     requires { Roomy run.old at 0 }
     ensures { Takes held_text sid_of 0 s.now run.old run.new v at result }
 {
-    let h = strings::string(s, v, run, at);
-    let Ended::Past { past, end } = h else {
-        return Ended::Wrong;
-    };
+    let h = strings::string(s, v, run, at)?;
     let first = at + 1;
-    if !forms::is_sid(&run[first..past]) {
-        return Ended::Wrong;
+    if !forms::is_sid(&run[first..h.past]) {
+        return None;
     }
-    Ended::Past {
-        past: past,
-        end: end,
-    }
+    Some(h)
 }
 
 // An Action entry, its wildcards apart from every character.
-fn action(s: &[u8], v: usize, run: &mut [u32], at: usize) -> Ended
+fn action(s: &[u8], v: usize, run: &mut [u32], at: usize) -> Option<Ended>
     requires { Roomy run.old at 0 }
     ensures { Takes held_text action_of 0 s.now run.old run.new v at result }
 {
-    let h = strings::string(s, v, run, at);
-    let Ended::Past { past, end } = h else {
-        return Ended::Wrong;
-    };
+    let h = strings::string(s, v, run, at)?;
     let first = at + 1;
-    if !forms::is_action(&run[first..past]) {
-        return Ended::Wrong;
+    if !forms::is_action(&run[first..h.past]) {
+        return None;
     }
-    symbols::wildcards(&mut run[first..past]);
-    Ended::Past {
-        past: past,
-        end: end,
-    }
+    symbols::wildcards(&mut run[first..h.past]);
+    Some(h)
 }
 
 // A text with its escapes resolved, its wildcards apart where there are some.
-fn escaped(s: &[u8], v: usize, run: &mut [u32], at: usize, wild: bool) -> Ended
+fn escaped(s: &[u8], v: usize, run: &mut [u32], at: usize, wild: bool) -> Option<Ended>
     requires { Roomy run.old at 0 }
     ensures { Takes held_text (λ t. then (characters_of t) (symbols_of wild)) 0 s.now run.old run.new v at result }
 {
-    let h = strings::string(s, v, run, at);
-    let Ended::Past { past, end } = h else {
-        return Ended::Wrong;
-    };
+    let Ended { past, end } = strings::string(s, v, run, at)?;
     let first = at + 1;
-    let c = symbols::symbols(&mut run[first..past], wild);
-    let Converted::Count(n) = c else {
-        return Ended::Wrong;
-    };
+    let n = symbols::symbols(&mut run[first..past], wild)?;
     run[at] = n as u32;
-    Ended::Past {
+    Some(Ended {
         past: first + n,
-        end: end,
-    }
+        end,
+    })
 }
 
-fn resource(s: &[u8], v: usize, run: &mut [u32], at: usize) -> Ended
+fn resource(s: &[u8], v: usize, run: &mut [u32], at: usize) -> Option<Ended>
     requires { Roomy run.old at 0 }
     ensures { Takes held_text resource_of 0 s.now run.old run.new v at result }
 {
-    let h = escaped(s, v, run, at, true);
-    let Ended::Past { past, end } = h else {
-        return Ended::Wrong;
-    };
+    let h = escaped(s, v, run, at, true)?;
     let first = at + 1;
-    if !forms::is_resource(&run[first..past]) {
-        return Ended::Wrong;
+    if !forms::is_resource(&run[first..h.past]) {
+        return None;
     }
-    Ended::Past {
-        past: past,
-        end: end,
-    }
+    Some(h)
 }
 
 // A number that is written as a string.
-fn quoted_number(s: &[u8], v: usize, run: &mut [u32], at: usize) -> Ended
+fn quoted_number(s: &[u8], v: usize, run: &mut [u32], at: usize) -> Option<Ended>
     requires { Roomy run.old at 0 }
     ensures { Takes held_number number_of_json 0 s.now run.old run.new v at result }
 {
-    let h = strings::string(s, v, run, at);
-    let Ended::Past { past, end } = h else {
-        return Ended::Wrong;
-    };
+    let Ended { past, end } = strings::string(s, v, run, at)?;
     let first = at + 1;
-    let k = numbers::number_in(&run[first..past]);
-    let Number::Is(n) = k else {
-        return Ended::Wrong;
-    };
+    let n = numbers::number_in(&run[first..past])?;
     if run.len() - at < 2 {
-        return Ended::Wrong;
+        return None;
     }
-    Ended::Past {
+    Some(Ended {
         past: holding::put_number(run, at, n),
-        end: end,
-    }
+        end,
+    })
 }
 
 // A number that stands as a JSON number.
-fn plain_number(s: &[u8], v: usize, run: &mut [u32], at: usize) -> Ended
+fn plain_number(s: &[u8], v: usize, run: &mut [u32], at: usize) -> Option<Ended>
     requires { Roomy run.old at 0 }
     ensures { Takes held_number number_of_json 0 s.now run.old run.new v at result }
 {
     if s.len() <= v {
-        return Ended::Wrong;
+        return None;
     }
-    let r = text::numbers::unsigned(s, v);
-    let Part::Past(e) = r else {
-        return Ended::Wrong;
+    let Ok(end) = text::numbers::unsigned(s, v) else {
+        return None;
     };
-    let k = numbers::number_spelt(&s[v..e]);
-    let Number::Is(n) = k else {
-        return Ended::Wrong;
-    };
+    let n = numbers::number_spelt(&s[v..end])?;
     if run.len() - at < 2 {
-        return Ended::Wrong;
+        return None;
     }
-    Ended::Past {
+    Some(Ended {
         past: holding::put_number(run, at, n),
-        end: e,
-    }
+        end,
+    })
 }
 
 // A number, told by its first byte.
-fn number(s: &[u8], v: usize, run: &mut [u32], at: usize) -> Ended
+fn number(s: &[u8], v: usize, run: &mut [u32], at: usize) -> Option<Ended>
     requires { Roomy run.old at 0 }
     ensures { Takes held_number number_of_json 0 s.now run.old run.new v at result }
 {
     if s.len() <= v {
-        return Ended::Wrong;
+        return None;
     }
     match s[v] {
-        48..=57 => plain_number(s, v, run, at),
+        b'0'..=b'9' => plain_number(s, v, run, at),
         _ => quoted_number(s, v, run, at),
     }
 }
 
-fn value(s: &[u8], v: usize, run: &mut [u32], at: usize, o: Operator) -> Ended
+fn value(s: &[u8], v: usize, run: &mut [u32], at: usize, o: Operator) -> Option<Ended>
     requires { Roomy run.old at 0 }
     ensures { Takes held_value (entry_of (Entry.Value o)) 0 s.now run.old run.new v at result }
 {
@@ -170,7 +133,7 @@ fn value(s: &[u8], v: usize, run: &mut [u32], at: usize, o: Operator) -> Ended
     }
 }
 
-fn entry(s: &[u8], v: usize, run: &mut [u32], at: usize, k: Entry) -> Ended
+fn entry(s: &[u8], v: usize, run: &mut [u32], at: usize, k: Entry) -> Option<Ended>
     requires { Roomy run.old at 0 }
     ensures { Takes held_value (entry_of k) 0 s.now run.old run.new v at result }
 {
@@ -182,82 +145,56 @@ fn entry(s: &[u8], v: usize, run: &mut [u32], at: usize, k: Entry) -> Ended
 }
 
 // The entries of a list of at least one.
-fn listed(s: &[u8], v: usize, run: &mut [u32], at: usize, k: Entry) -> Listed
+fn listed(s: &[u8], v: usize, run: &mut [u32], at: usize, k: Entry) -> Option<Listed>
     requires { Roomy run.old at 0 }
     ensures { TakesSeveral held_value (one_or_more (entry_of k)) 1 s.now run.old run.new v at result }
 {
-    let mut i = marks::opened(s, v, 91);
-    if i == 0 {
-        return Listed::Wrong;
-    }
-    let mut p = at;
-    let mut n = 0usize;
+    let mut i = marks::opened(s, v, b'[')?;
+    let mut past = at;
+    let mut count = 0usize;
     loop {
-        let h = entry(s, i, run, p, k);
-        let Ended::Past { past, end } = h else {
-            return Listed::Wrong;
+        let h = entry(s, i, run, past, k)?;
+        past = h.past;
+        count += 1;
+        let Some(next) = marks::parted(s, h.end, b',') else {
+            let end = marks::closed(s, h.end, b']')?;
+            return Some(Listed { past, end, count });
         };
-        p = past;
-        n = n + 1;
-        let c = marks::parted(s, end, 44);
-        if c == 0 {
-            let e = marks::closed(s, end, 93);
-            if e == 0 {
-                return Listed::Wrong;
-            }
-            return Listed::Several {
-                past: p,
-                end: e,
-                count: n,
-            };
-        }
-        i = c;
+        i = next;
     }
 }
 
 // One entry, behind the number of entries.
-fn lone(s: &[u8], v: usize, run: &mut [u32], at: usize, k: Entry) -> Ended
+fn lone(s: &[u8], v: usize, run: &mut [u32], at: usize, k: Entry) -> Option<Ended>
     requires { Roomy run.old at 0 }
     ensures { Takes (held_list held_value) (one_or_more (entry_of k)) 1 s.now run.old run.new v at result }
 {
     if run.len() <= at {
-        return Ended::Wrong;
+        return None;
     }
-    let h = entry(s, v, run, at + 1, k);
-    let Ended::Past { past, end } = h else {
-        return Ended::Wrong;
-    };
+    let h = entry(s, v, run, at + 1, k)?;
     run[at] = 1;
-    Ended::Past {
-        past: past,
-        end: end,
-    }
+    Some(h)
 }
 
 // One entry or a list of at least one, behind their number.
-pub fn entries(s: &[u8], v: usize, run: &mut [u32], at: usize, k: Entry) -> Ended
+pub fn entries(s: &[u8], v: usize, run: &mut [u32], at: usize, k: Entry) -> Option<Ended>
     requires { Roomy run.old at 0 }
     ensures { Takes (held_list held_value) (one_or_more (entry_of k)) 1 s.now run.old run.new v at result }
 {
     if s.len() <= v {
-        return Ended::Wrong;
+        return None;
     }
-    if s[v] != 91 {
+    if s[v] != b'[' {
         return lone(s, v, run, at, k);
     }
     if run.len() <= at {
-        return Ended::Wrong;
+        return None;
     }
-    let c = listed(s, v, run, at + 1, k);
-    let Listed::Several { past, end, count } = c else {
-        return Ended::Wrong;
-    };
+    let Listed { past, end, count } = listed(s, v, run, at + 1, k)?;
     if MOST < count {
-        return Ended::Wrong;
+        return None;
     }
     run[at] = count as u32;
-    Ended::Past {
-        past: past,
-        end: end,
-    }
+    Some(Ended { past, end })
 }

@@ -38,13 +38,11 @@ pub fn has_context_key(run: &[u32], at: usize, n: usize, p: usize) -> bool
     ensures { (xs : List Context) (x : Context) → n ≡ length xs → Lies run.now at (held_each held_context xs) → Lies run.now p (held_context x) → result ≡ has_like same_context x xs }
 {
     let mut q = at;
-    let mut i = 0usize;
-    while i < n {
+    for _ in 0..n {
         if same_context_at(run, p, q) {
             return true;
         }
         q = past_context(run, q);
-        i = i + 1;
     }
     false
 }

@@ -11,21 +11,14 @@ ghost use Rattle.straight.specs.Taking.{Takes, Puts};
 
 use crate::marks;
 use parts::holding;
-use parts::holding::{Ended, Held};
+use parts::holding::Ended;
 use text::quoted;
-use text::verdict::Part;
-
-fn wide(b: u8) -> u32
-    ensures { result ≡ b }
-{
-    b as u32
-}
 
 // Does a byte stand for itself in a string? Without branches, so that eight at once are tested as one.
 fn plain(b: u8) -> bool
     ensures { result ≡ true → bare b ≡ true }
 {
-    (31 < b) & (b < 128) & (b != 34) & (b != 92)
+    (31 < b) & (b < 128) & (b != b'"') & (b != b'\\')
 }
 
 // Do the eight bytes from a place on?
@@ -34,10 +27,8 @@ fn plain_eight(s: &[u8], at: usize) -> bool
     ensures { result ≡ true → all_bare (part s.now at (at + 8)) ≡ true }
 {
     let mut all = true;
-    let mut j = 0;
-    while j < 8 {
+    for j in 0..8 {
         all = all & plain(s[at + j]);
-        j += 1;
     }
     all
 }
@@ -47,10 +38,8 @@ fn put_eight(s: &[u8], at: usize, run: &mut [u32], to: usize)
     requires { (at + 8 ≤ length s.now) × (to + 8 ≤ length run.old) }
     ensures { Extends run.old run.new to (part s.now at (at + 8)) (to + 8) }
 {
-    let mut j = 0;
-    while j < 8 {
-        run[to + j] = wide(s[at + j]);
-        j += 1;
+    for j in 0..8 {
+        run[to + j] = s[at + j] as u32;
     }
 }
 
@@ -60,13 +49,7 @@ fn put_eights(s: &[u8], at: usize, run: &mut [u32], to: usize) -> usize
     ensures { Puts s.now run.old run.new at to result }
 {
     let mut n = 0;
-    while 8 <= s.len() - at - n {
-        if run.len() - to - n < 8 {
-            return n;
-        }
-        if !plain_eight(s, at + n) {
-            return n;
-        }
+    while 8 <= s.len() - at - n && 8 <= run.len() - to - n && plain_eight(s, at + n) {
         put_eight(s, at + n, run, to + n);
         n += 8;
     }
@@ -79,88 +62,62 @@ fn put_plain(s: &[u8], at: usize, run: &mut [u32], to: usize) -> usize
     ensures { Puts s.now run.old run.new at to result }
 {
     let mut n = put_eights(s, at, run, to);
-    while n < s.len() - at {
-        if run.len() - to <= n {
-            return n;
-        }
-        let b = s[at + n];
-        if !plain(b) {
-            return n;
-        }
-        run[to + n] = wide(b);
+    while n < s.len() - at && n < run.len() - to && plain(s[at + n]) {
+        run[to + n] = s[at + n] as u32;
         n += 1;
     }
     n
 }
 
 // A string behind whose opening quote anything may stand.
-fn any_string(s: &[u8], v: usize, run: &mut [u32], at: usize) -> Ended
+fn any_string(s: &[u8], v: usize, run: &mut [u32], at: usize) -> Option<Ended>
     requires { (At s.now v 34) × (Roomy run.old at 0) }
     ensures { Takes held_text characters_of 0 s.now run.old run.new v at result }
 {
     let from = v + 1;
-    let r = quoted::string(s, from);
-    let Part::Past(e) = r else {
-        return Ended::Wrong;
+    let Ok(end) = quoted::string(s, from) else {
+        return None;
     };
-    if run.len() - at < e - v {
-        return Ended::Wrong;
+    if run.len() - at < end - v {
+        return None;
     }
-    let to = e - 1;
-    let h = holding::hold_raw(&s[from..to], run, at);
-    let Held::Past(p) = h else {
-        return Ended::Wrong;
-    };
-    Ended::Past { past: p, end: e }
+    let to = end - 1;
+    let past = holding::hold_raw(&s[from..to], run, at)?;
+    Some(Ended { past, end })
 }
 
 // The string at a place. ASCII that is no escape takes the short way.
-pub fn string(s: &[u8], v: usize, run: &mut [u32], at: usize) -> Ended
+pub fn string(s: &[u8], v: usize, run: &mut [u32], at: usize) -> Option<Ended>
     requires { Roomy run.old at 0 }
     ensures { Takes held_text characters_of 0 s.now run.old run.new v at result }
 {
-    if s.len() <= v {
-        return Ended::Wrong;
-    }
-    if s[v] != 34 {
-        return Ended::Wrong;
-    }
-    if run.len() <= at {
-        return Ended::Wrong;
+    if s.len() <= v || s[v] != b'"' || run.len() <= at {
+        return None;
     }
     let from = v + 1;
     let first = at + 1;
     let n = put_plain(s, from, run, first);
     let e = from + n;
     if s.len() <= e {
-        return Ended::Wrong;
+        return None;
     }
-    if s[e] != 34 {
+    if s[e] != b'"' {
         return any_string(s, v, run, at);
     }
     run[at] = n as u32;
-    Ended::Past {
+    Some(Ended {
         past: first + n,
         end: e + 1,
-    }
+    })
 }
 
 // A list of one string.
-pub fn sole(s: &[u8], v: usize, run: &mut [u32], at: usize) -> Ended
+pub fn sole(s: &[u8], v: usize, run: &mut [u32], at: usize) -> Option<Ended>
     requires { Roomy run.old at 0 }
     ensures { Takes held_text (only_one characters_of) 1 s.now run.old run.new v at result }
 {
-    let i = marks::opened(s, v, 91);
-    if i == 0 {
-        return Ended::Wrong;
-    }
-    let h = string(s, i, run, at);
-    let Ended::Past { past, end } = h else {
-        return Ended::Wrong;
-    };
-    let e = marks::closed(s, end, 93);
-    if e == 0 {
-        return Ended::Wrong;
-    }
-    Ended::Past { past: past, end: e }
+    let i = marks::opened(s, v, b'[')?;
+    let h = string(s, i, run, at)?;
+    let end = marks::closed(s, h.end, b']')?;
+    Some(Ended { past: h.past, end })
 }

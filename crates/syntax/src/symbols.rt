@@ -5,26 +5,30 @@ ghost use Rattle.syntax.specs.Told.{is_read, Opened, NoDollar, Says, converted};
 
 use crate::forms;
 
-// So many symbols; or an escape is none of the three.
-#[derive(Clone, Copy)]
-pub enum Converted {
-    Count(usize),
-    Wrong,
-}
+// The characters of escapes, and the two that may be wildcards.
+const DOLLAR: u32 = '$' as u32;
 
-// What stands at a place: a symbol and the place behind what says it; or an escape that is none of the three.
+const ASTERISK: u32 = '*' as u32;
+
+const QUESTION: u32 = '?' as u32;
+
+const OPENING: u32 = '{' as u32;
+
+const CLOSING: u32 = '}' as u32;
+
+// What stands at a place: a symbol, and the place behind what says it.
 #[derive(Clone, Copy)]
-enum Step {
-    Symbol { c: u32, past: usize },
-    Wrong,
+struct Said {
+    c: u32,
+    past: usize,
 }
 
 fn wildcard(c: u32) -> u32
     ensures { result ≡ wildcard c }
 {
     match c {
-        42 => forms::STAR,
-        63 => forms::ANY,
+        ASTERISK => forms::STAR,
+        QUESTION => forms::ANY,
         _ => c,
     }
 }
@@ -33,10 +37,8 @@ fn wildcard(c: u32) -> u32
 pub fn wildcards(run: &mut [u32])
     ensures { run.new ≡ map wildcard run.old }
 {
-    let mut i = 0;
-    while i < run.len() {
-        run[i] = wildcard(run[i]);
-        i += 1;
+    for c in run {
+        *c = wildcard(*c);
     }
 }
 
@@ -46,39 +48,33 @@ fn symbol(c: u32, wild: bool) -> u32
     if wild { wildcard(c) } else { c }
 }
 
-// The escape that begins at a place with its two first characters.
-fn escape_at(cs: &[u32], i: usize, wild: bool) -> Step
+// The escape that begins at a place with its two first characters; none where it is none of the three.
+fn escape_at(cs: &[u32], i: usize, wild: bool) -> Option<Said>
     requires { Opened cs.now i }
     ensures { Says wild cs.now i result }
 {
-    if forms::character(cs, i, 3) != 125 {
-        return Step::Wrong;
+    if forms::character(cs, i, 3) != CLOSING {
+        return None;
     }
     let c = forms::character(cs, i, 2);
     match c {
-        36 | 42 | 63 => Step::Symbol { c, past: i + 4 },
-        _ => Step::Wrong,
+        DOLLAR | ASTERISK | QUESTION => Some(Said { c, past: i + 4 }),
+        _ => None,
     }
 }
 
-fn symbol_at(cs: &[u32], i: usize, wild: bool) -> Step
+fn symbol_at(cs: &[u32], i: usize, wild: bool) -> Option<Said>
     requires { i < length cs.now }
     ensures { Says wild cs.now i result }
 {
     let c = cs[i];
-    if c != 36 {
-        return Step::Symbol {
-            c: symbol(c, wild),
-            past: i + 1,
-        };
+    if c == DOLLAR && forms::character(cs, i, 1) == OPENING {
+        return escape_at(cs, i, wild);
     }
-    if forms::character(cs, i, 1) != 123 {
-        return Step::Symbol {
-            c: symbol(c, wild),
-            past: i + 1,
-        };
-    }
-    escape_at(cs, i, wild)
+    Some(Said {
+        c: symbol(c, wild),
+        past: i + 1,
+    })
 }
 
 fn escapes_right(cs: &[u32], wild: bool) -> bool
@@ -86,7 +82,7 @@ fn escapes_right(cs: &[u32], wild: bool) -> bool
 {
     let mut i = 0;
     while i < cs.len() {
-        let Step::Symbol { c: _, past } = symbol_at(cs, i, wild) else {
+        let Some(Said { past, .. }) = symbol_at(cs, i, wild) else {
             return false;
         };
         i = past;
@@ -94,25 +90,23 @@ fn escapes_right(cs: &[u32], wild: bool) -> bool
     true
 }
 
-// The symbols of an entry, in the place of the characters that say them. All escapes are looked at before the first
-// store, so that a run with a wrong one stays as it was.
-fn escaped_symbols(run: &mut [u32], wild: bool) -> Converted
+// The symbols of an entry, in the place of the characters that say them: how many. All escapes are looked at before the
+// first store, so that a run with a wrong one stays as it was.
+fn escaped_symbols(run: &mut [u32], wild: bool) -> Option<usize>
     ensures { (result, run.new) ≡ converted (symbols_of wild run.old) run.old }
 {
     if !escapes_right(run, wild) {
-        return Converted::Wrong;
+        return None;
     }
     let mut i = 0;
     let mut n = 0;
     while i < run.len() {
-        let Step::Symbol { c, past } = symbol_at(run, i, wild) else {
-            return Converted::Wrong;
-        };
+        let Said { c, past } = symbol_at(run, i, wild)?;
         run[n] = c;
         n += 1;
         i = past;
     }
-    Converted::Count(n)
+    Some(n)
 }
 
 // Is one of the characters a dollar? Without branches, so that many are tested at once.
@@ -120,27 +114,26 @@ fn has_dollar(cs: &[u32]) -> bool
     ensures { result ≡ false → NoDollar cs.now }
 {
     let mut found = false;
-    let mut i = 0;
-    while i < cs.len() {
-        found = found | (cs[i] == 36);
-        i += 1;
+    for c in cs {
+        found = found | (*c == DOLLAR);
     }
     found
 }
 
 // The symbols of an entry without a dollar, and so without an escape.
-fn plain_symbols(run: &mut [u32], wild: bool) -> Converted
+fn plain_symbols(run: &mut [u32], wild: bool) -> Option<usize>
     requires { NoDollar run.old }
     ensures { (result, run.new) ≡ converted (symbols_of wild run.old) run.old }
 {
     if wild {
         wildcards(run);
     }
-    Converted::Count(run.len())
+    Some(run.len())
 }
 
-// The symbols of an entry, in the place of the characters that say them; a run with a wrong escape stays as it was.
-pub fn symbols(run: &mut [u32], wild: bool) -> Converted
+// The symbols of an entry, in the place of the characters that say them: how many; a run with a wrong escape stays as it
+// was.
+pub fn symbols(run: &mut [u32], wild: bool) -> Option<usize>
     ensures { (result, run.new) ≡ converted (symbols_of wild run.old) run.old }
 {
     if has_dollar(run) {

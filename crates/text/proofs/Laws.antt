@@ -4,7 +4,6 @@ pub mod Moves
 pub mod Places
 pub mod Plain
 pub mod Values
-pub mod Quick
 pub mod Parts
 pub mod Eating
 pub mod Numbers
@@ -27,3 +26,4 @@ pub mod Seeking
 pub mod Skipping
 pub mod Meaning
 pub mod Printing
+pub mod Quick

@@ -3,13 +3,13 @@
 --   move x b       what item x does with byte b
 --   run k bs at    the verdict on the bytes bs, which begin at place `at`, where the stack k is owed
 --   verdict s      the verdict on a whole text of at most sixteen levels
-use Rattle.std.specs.Prelude.{Bool, true, false, List, [], ◌∷◌, ◌++◌, map, ℕ, zero, suc, ◌+◌, eqb, drop, replicate}
+use Rattle.std.specs.Prelude.{Ok, Err, Bool, true, false, List, [], ◌∷◌, ◌++◌, map, ℕ, zero, suc, ◌+◌, eqb, drop, replicate}
 use Rattle.chars.specs.Base.{pick, within, one_of}
 use Rattle.text.specs.Json.{levels}
 use Rattle.text.specs.declared.scan.Shape.{Shape}
 use Rattle.text.specs.declared.scan.Shape.TheVariants.{List as list, Object as object}
-use Rattle.text.specs.declared.verdict.Verdict.{Verdict}
-use Rattle.text.specs.declared.verdict.Verdict.TheVariants.{Whole, Breaks, Deep}
+use Rattle.text.specs.Verdicts.{Verdict}
+use Rattle.text.specs.declared.fault.Fault.TheVariants.{Breaks, Deep}
 
 pub data Item : Type 0 where
   -- white space of any length; this byte; a byte from the first to the second; a hexadecimal digit
@@ -159,13 +159,13 @@ ends [] = true
 ends (x ∷ k) = pick (optional x) (ends k) false
 
 abbrev pub after : Move → ℕ → (List Item → Verdict) → Verdict
-after pass at f = Breaks at
-after bad at f = Breaks at
-after deep at f = Deep
+after pass at f = Err (Breaks at)
+after bad at f = Err (Breaks at)
+after deep at f = Err Deep
 after (go k) at f = f k
 
 unfoldable pub run : List Item → List ℕ → ℕ → Verdict
-run k [] at = pick (ends k) Whole (Breaks at)
+run k [] at = pick (ends k) (Ok tt) (Err (Breaks at))
 run k (b ∷ bs) at = after (feed k b) at (λ l. run l bs (at + 1))
 
 -- from a place of a text on

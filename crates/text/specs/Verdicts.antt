@@ -1,11 +1,15 @@
 -- What the scan's answer means: document 01, "Numbered refusals", the paragraph on places and levels.
+--   Verdict        what the scan answers: a JSON text of the levels allowed, or a fault
 --   Begins n bs    the bytes bs are the beginning of some JSON text of at most n levels
 --   Means s v      the verdict v is the right one on the text s
 -- Differs from 01: nowhere.  Pinned by: `verdict_means` and `verdict_unique` of Laws/Meaning.
-use Rattle.std.specs.Prelude.{List, ◌++◌, ℕ, ◌+◌, ◌≤◌, ◌<◌, length, take}
+use Rattle.std.specs.Prelude.{Result, Ok, Err, ⊤, List, ◌++◌, ℕ, ◌+◌, ◌≤◌, ◌<◌, length, take}
 use Rattle.text.specs.Json.{Json, JsonText, depth, levels}
-use Rattle.text.specs.declared.verdict.Verdict.{Verdict}
-use Rattle.text.specs.declared.verdict.Verdict.TheVariants.{Whole, Breaks, Deep}
+use Rattle.text.specs.declared.fault.Fault.{Fault}
+use Rattle.text.specs.declared.fault.Fault.TheVariants.{Breaks, Deep}
+
+abbrev pub Verdict : Type 0
+Verdict = Result ⊤ Fault
 
 -- a JSON text of at most n levels
 pub record Text (n : ℕ) (s : List ℕ) : Type 0 where
@@ -38,6 +42,6 @@ pub record Sinks (s : List ℕ) : Type 0 where
   pub deep : DeepAt s place
 
 abbrev pub Means : List ℕ → Verdict → Type 0
-Means s Whole = Text levels s
-Means s (Breaks p) = BreaksAt s p
-Means s Deep = Sinks s
+Means s (Ok x) = Text levels s
+Means s (Err (Breaks p)) = BreaksAt s p
+Means s (Err Deep) = Sinks s

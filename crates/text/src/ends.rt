@@ -8,7 +8,7 @@ ghost use Rattle.text.specs.Seeking.{Unmarked, Nears, Quoting};
 fn mark(b: u8) -> bool
     ensures { result ≡ false → Unmarked b }
 {
-    (b == 34) | (b == 92)
+    (b == b'"') | (b == b'\\')
 }
 
 // Is one of the eight bytes from a place on a mark?
@@ -17,10 +17,8 @@ fn mark_in_eight(s: &[u8], at: usize) -> bool
     ensures { result ≡ false → Nears s.now at (at + 8) }
 {
     let mut found = false;
-    let mut j = 0;
-    while j < 8 {
-        found = found | mark(s[at + j]);
-        j += 1;
+    for j in 0..8 {
+        found |= mark(s[at + j]);
     }
     found
 }
@@ -48,10 +46,10 @@ pub fn past_quote(s: &[u8], at: usize) -> usize
     let mut i = unmarked_eights(s, at);
     loop {
         let b = s[i];
-        if b == 34 {
+        if b == b'"' {
             return i + 1;
         }
-        if b == 92 {
+        if b == b'\\' {
             i += 2;
         } else {
             i += 1;

@@ -2,12 +2,11 @@
 #![tactic(auto)]
 
 pub mod ends;
+pub mod fault;
 pub mod numbers;
 pub mod onward;
 pub mod quick;
 pub mod quoted;
 pub mod scan;
-pub mod special;
-pub mod verdict;
 pub mod walk;
 pub mod white;

@@ -3,7 +3,7 @@ ghost use Rattle.std.specs.Prelude.{[], ◌∷◌, ◌≤◌, length};
 ghost use Rattle.text.specs.Machine.{digits, digit, integer, fraction, exponent, sign};
 ghost use Rattle.text.specs.Reading.{Done, Goes};
 
-use crate::verdict::{Part, Verdict};
+use crate::fault::Fault;
 
 // Past digits, if there are any.
 fn some_digits(s: &[u8], at: usize) -> usize
@@ -14,7 +14,7 @@ fn some_digits(s: &[u8], at: usize) -> usize
     while i < s.len() {
         let b = s[i];
         match b {
-            48..=57 => {
+            b'0'..=b'9' => {
                 i += 1;
             }
             _ => {
@@ -26,17 +26,17 @@ fn some_digits(s: &[u8], at: usize) -> usize
 }
 
 // One digit or more.
-fn one_or_more(s: &[u8], at: usize) -> Part
+fn one_or_more(s: &[u8], at: usize) -> Result<usize, Fault>
     requires { at ≤ length s.now }
     ensures { Goes s.now (digit ∷ digits ∷ []) at result }
 {
     if s.len() <= at {
-        return Part::Fails(Verdict::Breaks(at));
+        return Err(Fault::Breaks(at));
     }
     let b = s[at];
     match b {
-        48..=57 => Part::Past(some_digits(s, at + 1)),
-        _ => Part::Fails(Verdict::Breaks(at)),
+        b'0'..=b'9' => Ok(some_digits(s, at + 1)),
+        _ => Err(Fault::Breaks(at)),
     }
 }
 
@@ -50,63 +50,60 @@ fn past_sign(s: &[u8], at: usize) -> usize
     }
     let b = s[at];
     match b {
-        43 | 45 => at + 1,
+        b'+' | b'-' => at + 1,
         _ => at,
     }
 }
 
 // Past an exponent, if there is one.
-fn past_exponent(s: &[u8], at: usize) -> Part
+fn past_exponent(s: &[u8], at: usize) -> Result<usize, Fault>
     requires { at ≤ length s.now }
     ensures { Goes s.now (exponent ∷ []) at result }
 {
     if s.len() <= at {
-        return Part::Past(at);
+        return Ok(at);
     }
     let b = s[at];
     match b {
-        69 | 101 => {
+        b'E' | b'e' => {
             let i = past_sign(s, at + 1);
             one_or_more(s, i)
         }
-        _ => Part::Past(at),
+        _ => Ok(at),
     }
 }
 
 // Past a fraction and an exponent, if there are any.
-fn past_fraction(s: &[u8], at: usize) -> Part
+fn past_fraction(s: &[u8], at: usize) -> Result<usize, Fault>
     requires { at ≤ length s.now }
     ensures { Goes s.now (fraction ∷ []) at result }
 {
     if s.len() <= at {
-        return Part::Past(at);
+        return Ok(at);
     }
     let b = s[at];
-    if b != 46 {
+    if b != b'.' {
         return past_exponent(s, at);
     }
-    let r = one_or_more(s, at + 1);
-    let Part::Past(n) = r else {
-        return r;
-    };
+    let n = one_or_more(s, at + 1)?;
     past_exponent(s, n)
 }
 
 // A number behind its minus.
-pub fn unsigned(s: &[u8], at: usize) -> Part
+pub fn unsigned(s: &[u8], at: usize) -> Result<usize, Fault>
     requires { at ≤ length s.now }
     ensures { Goes s.now (integer ∷ []) at result }
 {
     if s.len() <= at {
-        return Part::Fails(Verdict::Breaks(at));
+        return Err(Fault::Breaks(at));
     }
     let b = s[at];
     match b {
-        48 => past_fraction(s, at + 1),
-        49..=57 => {
+        b'0' => past_fraction(s, at + 1),
+        b'1'..=b'9' => {
             let i = some_digits(s, at + 1);
             past_fraction(s, i)
         }
-        _ => Part::Fails(Verdict::Breaks(at)),
+        _ => Err(Fault::Breaks(at)),
     }
 }

@@ -3,49 +3,35 @@ ghost use Rattle.std.specs.Prelude.{[], ◌∷◌, ◌++◌, ◌≤◌, length};
 ghost use Rattle.text.specs.Machine.{ws, next, before, inner};
 ghost use Rattle.text.specs.Reading.{Goes};
 
+use crate::fault::Fault;
 use crate::scan;
 use crate::scan::{Next, Shape};
-use crate::verdict::Part;
 
 // What follows an inner value that ends at a place, up to the end of its list or object; inner values may open so many
 // levels.
-pub fn rest(s: &[u8], at: usize, shape: Shape, left: usize) -> Part
+pub fn rest(s: &[u8], at: usize, shape: Shape, left: usize) -> Result<usize, Fault>
     requires { at ≤ length s.now }
     ensures { Goes s.now (ws ∷ next shape left ∷ []) at result }
 {
     let mut i = at;
     loop {
-        let q = scan::follow(s, i, shape);
-        match q {
+        match scan::follow(s, i, shape)? {
             Next::Inner(m) => {
-                let r = scan::value(s, m, left);
-                let Part::Past(n) = r else {
-                    return r;
-                };
-                i = n;
+                i = scan::value(s, m, left)?;
             }
             Next::Closed(e) => {
-                return Part::Past(e);
-            }
-            Next::Fails(v) => {
-                return Part::Fails(v);
+                return Ok(e);
             }
         }
     }
 }
 
 // The members of an object from a name on, up to its end.
-pub fn members(s: &[u8], at: usize, left: usize) -> Part
+pub fn members(s: &[u8], at: usize, left: usize) -> Result<usize, Fault>
     requires { at ≤ length s.now }
     ensures { Goes s.now (before Shape.Object ++ inner Shape.Object left) at result }
 {
-    let h = scan::heading(s, at, Shape::Object);
-    let Part::Past(v) = h else {
-        return h;
-    };
-    let r = scan::value(s, v, left);
-    let Part::Past(e) = r else {
-        return r;
-    };
+    let v = scan::heading(s, at, Shape::Object)?;
+    let e = scan::value(s, v, left)?;
     rest(s, e, Shape::Object, left)
 }

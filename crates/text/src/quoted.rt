@@ -4,11 +4,10 @@ ghost use Rattle.chars.specs.Base.{At};
 ghost use Rattle.text.specs.Machine.{range, hex, text, char, move, go, escape};
 ghost use Rattle.text.specs.Reading.{Leads, Goes};
 
-use crate::special;
-use crate::verdict::{Part, Verdict};
+use crate::fault::Fault;
 
 // Four hexadecimal digits.
-fn four_hex(s: &[u8], at: usize) -> Part
+fn four_hex(s: &[u8], at: usize) -> Result<usize, Fault>
     requires { at ≤ length s.now }
     ensures { Goes s.now (replicate 4 hex) at result }
 {
@@ -16,40 +15,40 @@ fn four_hex(s: &[u8], at: usize) -> Part
     let mut left: usize = 4;
     while 0 < left {
         if s.len() <= i {
-            return Part::Fails(Verdict::Breaks(i));
+            return Err(Fault::Breaks(i));
         }
         let b = s[i];
         match b {
-            48..=57 | 65..=70 | 97..=102 => {
+            b'0'..=b'9' | b'A'..=b'F' | b'a'..=b'f' => {
                 i += 1;
                 left -= 1;
             }
             _ => {
-                return Part::Fails(Verdict::Breaks(i));
+                return Err(Fault::Breaks(i));
             }
         }
     }
-    Part::Past(i)
+    Ok(i)
 }
 
 // What follows a reverse solidus.
-fn escaped(s: &[u8], at: usize) -> Part
+fn escaped(s: &[u8], at: usize) -> Result<usize, Fault>
     requires { at ≤ length s.now }
     ensures { Goes s.now (escape ∷ []) at result }
 {
     if s.len() <= at {
-        return Part::Fails(Verdict::Breaks(at));
+        return Err(Fault::Breaks(at));
     }
     let b = s[at];
     match b {
-        34 | 47 | 92 | 98 | 102 | 110 | 114 | 116 => Part::Past(at + 1),
-        117 => four_hex(s, at + 1),
-        _ => Part::Fails(Verdict::Breaks(at)),
+        b'"' | b'/' | b'\\' | b'b' | b'f' | b'n' | b'r' | b't' => Ok(at + 1),
+        b'u' => four_hex(s, at + 1),
+        _ => Err(Fault::Breaks(at)),
     }
 }
 
 // A byte from lo to hi, and so many tails behind it.
-fn tails(s: &[u8], at: usize, lo: u8, hi: u8, more: usize) -> Part
+fn tails(s: &[u8], at: usize, lo: u8, hi: u8, more: usize) -> Result<usize, Fault>
     requires { at ≤ length s.now }
     ensures { Goes s.now (range lo hi ∷ replicate more (range 128 191)) at result }
 {
@@ -59,18 +58,18 @@ fn tails(s: &[u8], at: usize, lo: u8, hi: u8, more: usize) -> Part
     let mut left = more;
     loop {
         if s.len() <= i {
-            return Part::Fails(Verdict::Breaks(i));
+            return Err(Fault::Breaks(i));
         }
         let b = s[i];
         if b < low {
-            return Part::Fails(Verdict::Breaks(i));
+            return Err(Fault::Breaks(i));
         }
         if high < b {
-            return Part::Fails(Verdict::Breaks(i));
+            return Err(Fault::Breaks(i));
         }
         i += 1;
         if left == 0 {
-            return Part::Past(i);
+            return Ok(i);
         }
         left -= 1;
         low = 128;
@@ -79,14 +78,14 @@ fn tails(s: &[u8], at: usize, lo: u8, hi: u8, more: usize) -> Part
 }
 
 // A character that begins with the byte at a place, which is no quote: one byte, an escape, or a sequence of UTF-8.
-fn character(s: &[u8], at: usize, b: u8) -> Part
+fn character(s: &[u8], at: usize, b: u8) -> Result<usize, Fault>
     requires { At s.now at b }
     ensures { Goes s.now (char ∷ []) at result }
 {
     let i = at + 1;
     match b {
-        92 => escaped(s, i),
-        32..=127 => Part::Past(i),
+        b'\\' => escaped(s, i),
+        b' '..=127 => Ok(i),
         194..=223 => tails(s, i, 128, 191, 0),
         224 => tails(s, i, 160, 191, 1),
         237 => tails(s, i, 128, 159, 1),
@@ -94,7 +93,7 @@ fn character(s: &[u8], at: usize, b: u8) -> Part
         240 => tails(s, i, 144, 191, 2),
         241..=243 => tails(s, i, 128, 191, 2),
         244 => tails(s, i, 128, 143, 2),
-        _ => Part::Fails(Verdict::Breaks(at)),
+        _ => Err(Fault::Breaks(at)),
     }
 }
 
@@ -102,7 +101,7 @@ fn character(s: &[u8], at: usize, b: u8) -> Part
 fn special(b: u8) -> bool
     ensures { result ≡ false → move text b ≡ go (text ∷ []) }
 {
-    (b < 32) | (127 < b) | (b == 34) | (b == 92)
+    (b < 32) | (127 < b) | (b == b'"') | (b == b'\\')
 }
 
 // Is one of the eight bytes from a place on special?
@@ -111,10 +110,8 @@ fn special_in_eight(s: &[u8], at: usize) -> bool
     ensures { result ≡ false → Leads s.now (text ∷ []) at (text ∷ []) (at + 8) }
 {
     let mut found = false;
-    let mut j = 0;
-    while j < 8 {
-        found = found | special(s[at + j]);
-        j += 1;
+    for j in 0..8 {
+        found |= special(s[at + j]);
     }
     found
 }
@@ -167,26 +164,33 @@ pub fn plain(s: &[u8], at: usize) -> usize
     i
 }
 
-// The rest of a string behind its opening quote, with its closing quote.
-pub fn string(s: &[u8], at: usize) -> Part
+// The rest of a string from a place on, with its closing quote, character by character.
+fn characters(s: &[u8], at: usize) -> Result<usize, Fault>
     requires { at ≤ length s.now }
     ensures { Goes s.now (text ∷ []) at result }
 {
     let mut i = at;
     loop {
-        let p = plain(s, i);
-        let j = special::characters(s, p);
-        if s.len() <= j {
-            return Part::Fails(Verdict::Breaks(j));
-        }
-        let b = s[j];
-        if b == 34 {
-            return Part::Past(j + 1);
-        }
-        let r = character(s, j, b);
-        let Part::Past(n) = r else {
-            return r;
+        let Some(&b) = s.get(i) else {
+            return Err(Fault::Breaks(i));
         };
-        i = n;
+        if b == b'"' {
+            return Ok(i + 1);
+        }
+        let n = character(s, i, b)?;
+        i = plain(s, n);
+    }
+}
+
+// The rest of a string behind its opening quote, with its closing quote. Most strings are plain.
+#[inline(always)]
+pub fn string(s: &[u8], at: usize) -> Result<usize, Fault>
+    requires { at ≤ length s.now }
+    ensures { Goes s.now (text ∷ []) at result }
+{
+    let i = plain(s, at);
+    match s.get(i) {
+        Some(b'"') => Ok(i + 1),
+        _ => characters(s, i),
     }
 }

@@ -1,26 +1,27 @@
 // The scan: is a text JSON (RFC 8259, in UTF-8) of at most sixteen levels, and if not, where does it break?
 // Each function promises what the reader of specs/Machine.antt does with the items that it reads.
 ghost use Rattle.std.specs.Prelude.{[], ◌∷◌, map, ◌≡◌, ◌≤◌, length};
-ghost use Rattle.text.specs.Machine.{ws, byte, text, value, before, close, verdict};
-ghost use Rattle.text.specs.Reading.{Done, Goes, Begins, Opens, Follows, shape_of};
+ghost use Rattle.text.specs.Machine.{ws, byte, text, value, before, close, from, verdict};
+ghost use Rattle.text.specs.Reading.{Done, Goes, Begins, Opens, Follows};
 
-use crate::verdict::{Part, Verdict};
+use crate::fault::Fault;
+use crate::quick::Reach;
 use crate::{numbers, quick, quoted, white};
 
 // Levels that a text may open.
 pub const LEVELS: usize = 16;
 
 // What holds inner values.
-#[derive(Clone, Copy)]
+#[derive(Clone, Copy, PartialEq, Eq)]
 pub enum Shape {
     List,
     Object,
 }
 
-// How a value begins: it holds no inner value, or its first inner value stands at a place.
+// How a value begins: it holds no inner value and ends at this place, or its first inner value stands at a place.
 #[derive(Clone, Copy)]
 pub enum Begun {
-    Ends(Part),
+    Ends(usize),
     Inner { at: usize, shape: Shape },
 }
 
@@ -29,7 +30,6 @@ pub enum Begun {
 pub enum Next {
     Inner(usize),
     Closed(usize),
-    Fails(Verdict),
 }
 
 // Past white space. Behind its first byte there are often many spaces.
@@ -53,55 +53,39 @@ pub fn space(s: &[u8], at: usize) -> usize
     i
 }
 
+// The byte x.
+fn byte(s: &[u8], at: usize, x: u8) -> Result<usize, Fault>
+    requires { at ≤ length s.now }
+    ensures { Goes s.now (byte x ∷ []) at result }
+{
+    match s.get(at) {
+        Some(&b) if b == x => Ok(at + 1),
+        _ => Err(Fault::Breaks(at)),
+    }
+}
+
 // The bytes of w.
-fn word(s: &[u8], at: usize, w: &[u8]) -> Part
+fn word(s: &[u8], at: usize, w: &[u8]) -> Result<usize, Fault>
     requires { at ≤ length s.now }
     ensures { Goes s.now (map byte w.now) at result }
 {
     let mut i = at;
-    let mut j = 0;
-    while j < w.len() {
-        if s.len() <= i {
-            return Part::Fails(Verdict::Breaks(i));
-        }
-        if s[i] != w[j] {
-            return Part::Fails(Verdict::Breaks(i));
-        }
-        i += 1;
-        j += 1;
+    for &x in w {
+        i = byte(s, i, x)?;
     }
-    Part::Past(i)
+    Ok(i)
 }
 
-// White space, and the byte x.
-fn mark(s: &[u8], at: usize, x: u8) -> Part
+// A member's name in quotes and its colon, up to its value.
+#[inline(always)]
+pub fn name(s: &[u8], at: usize) -> Result<usize, Fault>
     requires { at ≤ length s.now }
-    ensures { Goes s.now (ws ∷ byte x ∷ []) at result }
+    ensures { Goes s.now (before Shape.Object) at result }
 {
-    let i = space(s, at);
-    if s.len() <= i {
-        return Part::Fails(Verdict::Breaks(i));
-    }
-    if s[i] != x {
-        return Part::Fails(Verdict::Breaks(i));
-    }
-    Part::Past(i + 1)
-}
-
-// A member's name behind its opening quote, up to its value.
-fn name(s: &[u8], at: usize) -> Part
-    requires { at ≤ length s.now }
-    ensures { Goes s.now (text ∷ ws ∷ byte 58 ∷ ws ∷ []) at result }
-{
-    let r = quoted::string(s, at);
-    let Part::Past(n) = r else {
-        return r;
-    };
-    let q = mark(s, n, 58);
-    let Part::Past(m) = q else {
-        return q;
-    };
-    Part::Past(space(s, m))
+    let n = byte(s, at, b'"')?;
+    let e = quoted::string(s, n)?;
+    let c = byte(s, space(s, e), b':')?;
+    Ok(space(s, c))
 }
 
 // The byte that closes a list or an object.
@@ -109,170 +93,131 @@ fn closer(shape: Shape) -> u8
     ensures { result ≡ close shape }
 {
     match shape {
-        Shape::List => 93,
-        Shape::Object => 125,
+        Shape::List => b']',
+        Shape::Object => b'}',
     }
 }
 
 // What stands before an inner value: in a list nothing, in an object a member's name and a colon.
-pub fn heading(s: &[u8], at: usize, shape: Shape) -> Part
+pub fn heading(s: &[u8], at: usize, shape: Shape) -> Result<usize, Fault>
     requires { at ≤ length s.now }
     ensures { Goes s.now (before shape) at result }
 {
-    let Shape::Object = shape else {
-        return Part::Past(at);
-    };
-    let m = quick::member(s, at);
-    if m != 0 {
-        return Part::Past(m);
+    match shape {
+        Shape::List => Ok(at),
+        Shape::Object => name(s, at),
     }
-    if s.len() <= at {
-        return Part::Fails(Verdict::Breaks(at));
-    }
-    if s[at] != 34 {
-        return Part::Fails(Verdict::Breaks(at));
-    }
-    name(s, at + 1)
 }
 
 // Behind an opening bracket or brace.
-fn opened(s: &[u8], at: usize, shape: Shape) -> Begun
+fn opened(s: &[u8], at: usize, shape: Shape) -> Result<Begun, Fault>
     requires { at ≤ length s.now }
     ensures { Opens s.now shape at result }
 {
     let i = space(s, at);
     if s.len() <= i {
-        return Begun::Ends(Part::Fails(Verdict::Breaks(i)));
+        return Err(Fault::Breaks(i));
     }
     if s[i] == closer(shape) {
-        return Begun::Ends(Part::Past(i + 1));
+        return Ok(Begun::Ends(i + 1));
     }
-    let r = heading(s, i, shape);
-    match r {
-        Part::Past(n) => Begun::Inner {
-            at: n,
-            shape: shape,
-        },
-        Part::Fails(v) => Begun::Ends(Part::Fails(v)),
-    }
+    let first = heading(s, i, shape)?;
+    Ok(Begun::Inner {
+        at: first,
+        shape: shape,
+    })
 }
 
 // How the value at a place begins, where at most so many levels may be opened.
-fn begin(s: &[u8], at: usize, left: usize) -> Begun
+fn begin(s: &[u8], at: usize, left: usize) -> Result<Begun, Fault>
     requires { at ≤ length s.now }
     ensures { Begins s.now left at result }
 {
     if s.len() <= at {
-        return Begun::Ends(Part::Fails(Verdict::Breaks(at)));
+        return Err(Fault::Breaks(at));
     }
     let b = s[at];
     let i = at + 1;
     match b {
-        34 => Begun::Ends(quoted::string(s, i)),
-        45 => Begun::Ends(numbers::unsigned(s, i)),
-        48..=57 => Begun::Ends(numbers::unsigned(s, at)),
-        91 => {
+        b'"' => quoted::string(s, i).map(Begun::Ends),
+        b'-' => numbers::unsigned(s, i).map(Begun::Ends),
+        b'0'..=b'9' => numbers::unsigned(s, at).map(Begun::Ends),
+        b'[' => {
             if left == 0 {
-                return Begun::Ends(Part::Fails(Verdict::Deep));
+                return Err(Fault::Deep);
             }
             opened(s, i, Shape::List)
         }
-        102 => Begun::Ends(word(s, i, b"alse")),
-        110 => Begun::Ends(word(s, i, b"ull")),
-        116 => Begun::Ends(word(s, i, b"rue")),
-        123 => {
+        b'f' => word(s, i, b"alse").map(Begun::Ends),
+        b'n' => word(s, i, b"ull").map(Begun::Ends),
+        b't' => word(s, i, b"rue").map(Begun::Ends),
+        b'{' => {
             if left == 0 {
-                return Begun::Ends(Part::Fails(Verdict::Deep));
+                return Err(Fault::Deep);
             }
             opened(s, i, Shape::Object)
         }
-        _ => Begun::Ends(Part::Fails(Verdict::Breaks(at))),
+        _ => Err(Fault::Breaks(at)),
     }
 }
 
 // What follows an inner value that ends at a place.
-pub fn follow(s: &[u8], at: usize, shape: Shape) -> Next
+pub fn follow(s: &[u8], at: usize, shape: Shape) -> Result<Next, Fault>
     requires { at ≤ length s.now }
     ensures { Follows s.now shape at result }
 {
     let i = space(s, at);
     if s.len() <= i {
-        return Next::Fails(Verdict::Breaks(i));
+        return Err(Fault::Breaks(i));
     }
     let b = s[i];
     if b == closer(shape) {
-        return Next::Closed(i + 1);
+        return Ok(Next::Closed(i + 1));
     }
-    if b != 44 {
-        return Next::Fails(Verdict::Breaks(i));
+    if b != b',' {
+        return Err(Fault::Breaks(i));
     }
     let j = space(s, i + 1);
-    let r = heading(s, j, shape);
-    match r {
-        Part::Past(n) => Next::Inner(n),
-        Part::Fails(v) => Next::Fails(v),
-    }
-}
-
-// What a byte opens that opens a list or an object.
-fn shape_of(b: u8) -> Shape
-    ensures { result ≡ shape_of b }
-{
-    if b == 123 {
-        return Shape::Object;
-    }
-    Shape::List
+    let inner = heading(s, j, shape)?;
+    Ok(Next::Inner(inner))
 }
 
 // How the value at a place begins: what the quick way read of a list or an object up to a comma is gone on with
 // behind it.
-fn entered(s: &[u8], at: usize, left: usize) -> Begun
+fn entered(s: &[u8], at: usize, left: usize) -> Result<Begun, Fault>
     requires { at ≤ length s.now }
     ensures { Begins s.now left at result }
 {
-    let e = quick::front(s, at, left);
-    if e == 0 {
-        return begin(s, at, left);
-    }
-    if s[e - 1] != 44 {
-        return Begun::Ends(Part::Past(e));
-    }
-    let shape = shape_of(s[at]);
-    let r = heading(s, space(s, e), shape);
-    match r {
-        Part::Past(n) => Begun::Inner {
-            at: n,
-            shape: shape,
-        },
-        Part::Fails(v) => Begun::Ends(Part::Fails(v)),
+    match quick::front(s, at, left) {
+        None => begin(s, at, left),
+        Some(Reach::Ends(e)) => Ok(Begun::Ends(e)),
+        Some(Reach::More { at: e, shape }) => {
+            let inner = heading(s, space(s, e), shape)?;
+            Ok(Begun::Inner {
+                at: inner,
+                shape: shape,
+            })
+        }
     }
 }
 
 // The value at a place, where at most so many levels may be opened.
-pub fn value(s: &[u8], at: usize, left: usize) -> Part
+pub fn value(s: &[u8], at: usize, left: usize) -> Result<usize, Fault>
     requires { at ≤ length s.now }
     ensures { Goes s.now (value left ∷ []) at result }
 {
-    let b = entered(s, at, left);
-    match b {
-        Begun::Ends(p) => p,
+    match entered(s, at, left)? {
+        Begun::Ends(e) => Ok(e),
         Begun::Inner { at: first, shape } => {
             let mut i = first;
             loop {
-                let r = value(s, i, left - 1);
-                let Part::Past(n) = r else {
-                    return r;
-                };
-                let q = follow(s, n, shape);
-                match q {
+                let n = value(s, i, left - 1)?;
+                match follow(s, n, shape)? {
                     Next::Inner(m) => {
                         i = m;
                     }
                     Next::Closed(e) => {
-                        return Part::Past(e);
-                    }
-                    Next::Fails(v) => {
-                        return Part::Fails(v);
+                        return Ok(e);
                     }
                 }
             }
@@ -280,20 +225,22 @@ pub fn value(s: &[u8], at: usize, left: usize) -> Part
     }
 }
 
-// What the bytes are.
-pub fn scan(s: &[u8]) -> Verdict
+// Behind the value of a whole text only white space stands.
+pub fn ended(s: &[u8], at: usize) -> Result<(), Fault>
+    requires { at ≤ length s.now }
+    ensures { result ≡ from (ws ∷ []) s.now at }
+{
+    let j = space(s, at);
+    if j < s.len() {
+        return Err(Fault::Breaks(j));
+    }
+    Ok(())
+}
+
+// Are the bytes a JSON text of the levels allowed?
+pub fn scan(s: &[u8]) -> Result<(), Fault>
     ensures { result ≡ verdict s.now }
 {
-    let i = space(s, 0);
-    let r = value(s, i, LEVELS);
-    match r {
-        Part::Past(n) => {
-            let j = space(s, n);
-            if j < s.len() {
-                return Verdict::Breaks(j);
-            }
-            Verdict::Whole
-        }
-        Part::Fails(v) => v,
-    }
+    let n = value(s, space(s, 0), LEVELS)?;
+    ended(s, n)
 }

@@ -1,5 +1,5 @@
 // A walk over a text known to be whole, in place: each function promises which piece of the tree stands where.
-ghost use Rattle.std.specs.Prelude.{true, ◌≡◌, ℕ, ◌+◌, get_or, List};
+ghost use Rattle.std.specs.Prelude.{Ok, true, ◌≡◌, ℕ, ◌+◌, get_or, List};
 ghost use Rattle.text.specs.Json.{Json, Values, Members, list, object, string};
 ghost use Rattle.text.specs.Machine.{verdict};
 ghost use Rattle.text.specs.Contents.{Stands, Rest, Others, Standing, StandingText, StandingList};
@@ -7,13 +7,11 @@ ghost use Rattle.text.specs.Contents.{StandingObject, Resting, Continuing, kind_
 ghost use Rattle.text.specs.Contents.{Entry, Entering};
 ghost use Rattle.text.specs.Skipping.{level, Steps, Closes, Plain, Idles};
 ghost use Rattle.text.specs.Skipping.{Stepping, Counting, Waiting, Closing};
-ghost use Rattle.text.specs.declared.verdict.Verdict.TheVariants.{Whole};
 
-use crate::verdict::Part;
 use crate::{ends, scan};
 
 // What kind of value stands at a place.
-#[derive(Clone, Copy)]
+#[derive(Clone, Copy, PartialEq, Eq)]
 pub enum Kind {
     Null,
     True,
@@ -51,7 +49,7 @@ pub enum Member {
 
 // The place of the value of a whole text.
 pub fn root(s: &[u8]) -> usize
-    requires { verdict s.now ≡ Whole }
+    requires { verdict s.now ≡ Ok tt }
     ensures { Rooted s.now result }
 {
     scan::space(s, 0)
@@ -62,7 +60,7 @@ fn past_one(s: &[u8], i: usize) -> usize
     requires { Stepping s.now i }
     ensures { (j : ℕ) → Steps s.now i j → result ≡ j }
 {
-    if s[i] != 34 {
+    if s[i] != b'"' {
         return i + 1;
     }
     ends::past_quote(s, i + 1)
@@ -75,10 +73,10 @@ fn open_past(s: &[u8], i: usize, deep: usize) -> usize
 {
     let b = s[i];
     match b {
-        91 => deep + 1,
-        93 => deep - 1,
-        123 => deep + 1,
-        125 => deep - 1,
+        b'[' => deep + 1,
+        b']' => deep - 1,
+        b'{' => deep + 1,
+        b'}' => deep - 1,
         _ => deep,
     }
 }
@@ -87,7 +85,7 @@ fn open_past(s: &[u8], i: usize, deep: usize) -> usize
 fn idle(b: u8) -> bool
     ensures { result ≡ true → Plain b }
 {
-    (b != 34) & (b != 91) & (b != 93) & (b != 123) & (b != 125)
+    (b != b'"') & (b != b'[') & (b != b']') & (b != b'{') & (b != b'}')
 }
 
 // The place of the next quote or bracket: one comes, since a bracket is open.
@@ -122,11 +120,7 @@ fn past_leaf(s: &[u8], v: usize) -> usize
     requires { Standing s.now v }
     ensures { (t : Json) (e : ℕ) → Stands s.now t v e → result ≡ e }
 {
-    let r = scan::value(s, v, scan::LEVELS);
-    match r {
-        Part::Past(e) => e,
-        Part::Fails(_) => v,
-    }
+    scan::value(s, v, scan::LEVELS).unwrap_or(v)
 }
 
 // The place past the value that stands at a place.
@@ -136,9 +130,8 @@ pub fn past_value(s: &[u8], v: usize) -> usize
 {
     let b = s[v];
     match b {
-        91 => past_closed(s, v),
-        123 => past_closed(s, v),
-        34 => ends::past_quote(s, v + 1),
+        b'[' | b'{' => past_closed(s, v),
+        b'"' => ends::past_quote(s, v + 1),
         _ => past_leaf(s, v),
     }
 }
@@ -150,12 +143,12 @@ pub fn kind_at(s: &[u8], v: usize) -> Kind
 {
     let b = s[v];
     match b {
-        34 => Kind::Text,
-        91 => Kind::List,
-        102 => Kind::False,
-        110 => Kind::Null,
-        116 => Kind::True,
-        123 => Kind::Object,
+        b'"' => Kind::Text,
+        b'[' => Kind::List,
+        b'f' => Kind::False,
+        b'n' => Kind::Null,
+        b't' => Kind::True,
+        b'{' => Kind::Object,
         _ => Kind::Number,
     }
 }
@@ -178,7 +171,7 @@ pub fn first_element(s: &[u8], v: usize) -> Element
     ensures { (ts : Values) (e : ℕ) → Stands s.now (list ts) v e → Comes s.now v ts e result }
 {
     let i = scan::space(s, v + 1);
-    if s[i] == 93 {
+    if s[i] == b']' {
         return Element::Past(i + 1);
     }
     Element::At(i)
@@ -190,7 +183,7 @@ pub fn next_element(s: &[u8], i: usize) -> Element
     ensures { (ts : Values) (e : ℕ) → Rest s.now ts i e → Comes s.now i ts e result }
 {
     let j = scan::space(s, i);
-    if s[j] == 93 {
+    if s[j] == b']' {
         return Element::Past(j + 1);
     }
     Element::At(scan::space(s, j + 1))
@@ -217,7 +210,7 @@ pub fn first_member(s: &[u8], v: usize) -> Member
     ensures { (ms : Members) (e : ℕ) → Stands s.now (object ms) v e → Leads s.now v ms e result }
 {
     let i = scan::space(s, v + 1);
-    if s[i] == 125 {
+    if s[i] == b'}' {
         return Member::Past(i + 1);
     }
     entry(s, i)
@@ -229,7 +222,7 @@ pub fn next_member(s: &[u8], i: usize) -> Member
     ensures { (ms : Members) (e : ℕ) → Others s.now ms i e → Leads s.now i ms e result }
 {
     let j = scan::space(s, i);
-    if s[j] == 125 {
+    if s[j] == b'}' {
         return Member::Past(j + 1);
     }
     entry(s, scan::space(s, j + 1))

@@ -7,7 +7,7 @@ ghost use Rattle.text.specs.Reading.{Leads, Blank};
 pub fn blank(b: u8) -> bool
     ensures { Blank b result }
 {
-    (b == 9) | (b == 10) | (b == 13) | (b == 32)
+    (b == b'\t') | (b == b'\n') | (b == b'\r') | (b == b' ')
 }
 
 // Are the four bytes from a place on spaces? Without branches, so that they are tested as one.
@@ -16,10 +16,8 @@ fn four_spaces(s: &[u8], at: usize) -> bool
     ensures { result ≡ true → Leads s.now (ws ∷ []) at (ws ∷ []) (at + 4) }
 {
     let mut all = true;
-    let mut j = 0;
-    while j < 4 {
-        all = all & (s[at + j] == 32);
-        j += 1;
+    for j in 0..4 {
+        all &= s[at + j] == b' ';
     }
     all
 }

@@ -4,11 +4,10 @@
 ghost use Rattle.std.specs.Prelude.{◌≡◌};
 ghost use Rattle.text_probe.specs.Numbers.{scanning, decoding, writing};
 
-use chars::strings::Decoded;
-use chars::written::Written;
+use chars::strings::DecodeError;
 use chars::{strings, written};
+use text::fault::Fault;
 use text::scan;
-use text::verdict::Verdict;
 
 // Which answer it is, and the number that it holds, or 0 where it holds none.
 #[repr(C)]
@@ -23,17 +22,16 @@ pub struct Answer {
 pub extern "C" fn text_probe_scan(s: &[u8]) -> Answer
     ensures { result ≡ scanning s.now }
 {
-    let v = scan::scan(s);
-    match v {
-        Verdict::Whole => Answer {
+    match scan::scan(s) {
+        Ok(()) => Answer {
             which: 0,
             number: 0,
         },
-        Verdict::Breaks(p) => Answer {
+        Err(Fault::Breaks(p)) => Answer {
             which: 1,
             number: p,
         },
-        Verdict::Deep => Answer {
+        Err(Fault::Deep) => Answer {
             which: 2,
             number: 0,
         },
@@ -45,17 +43,16 @@ pub extern "C" fn text_probe_scan(s: &[u8]) -> Answer
 pub extern "C" fn text_probe_decode(s: &[u8], out: &mut [u32]) -> Answer
     ensures { (result, out.new) ≡ decoding s.now out.old }
 {
-    let d = strings::decode(s, out);
-    match d {
-        Decoded::Count(n) => Answer {
+    match strings::decode(s, out) {
+        Ok(n) => Answer {
             which: 0,
             number: n,
         },
-        Decoded::Lone => Answer {
+        Err(DecodeError::Lone) => Answer {
             which: 1,
             number: 0,
         },
-        Decoded::Short => Answer {
+        Err(DecodeError::Short) => Answer {
             which: 2,
             number: 0,
         },
@@ -67,13 +64,12 @@ pub extern "C" fn text_probe_decode(s: &[u8], out: &mut [u32]) -> Answer
 pub extern "C" fn text_probe_write(cs: &[u32], out: &mut [u8]) -> Answer
     ensures { (result, out.new) ≡ writing cs.now out.old }
 {
-    let w = written::write_text(cs, out);
-    match w {
-        Written::Count(n) => Answer {
+    match written::write_text(cs, out) {
+        Some(n) => Answer {
             which: 0,
             number: n,
         },
-        Written::Short => Answer {
+        None => Answer {
             which: 1,
             number: 0,
         },

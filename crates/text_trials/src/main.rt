@@ -6,19 +6,18 @@
 ghost use Rattle.std.specs.Prelude.{◌<◌, ◌≤◌, length, IfOk};
 
 use chars::lines::Line;
-use chars::strings::Decoded;
-use chars::written::Written;
+use chars::strings::DecodeError;
 use std::io;
 use std::io::Read;
-use text::verdict::Verdict;
+use text::fault::Fault;
 
 // A hexadecimal digit's number.
 fn digit(b: u8) -> u8
     ensures small { result < 16 }
 {
     match b {
-        48..=57 => b - 48,
-        97..=102 => b - 87,
+        b'0'..=b'9' => b - b'0',
+        b'a'..=b'f' => b - b'a' + 10,
         _ => 0,
     }
 }
@@ -28,121 +27,79 @@ fn byte(high: u8, low: u8) -> u8 {
     digit(high) * 16 + digit(low)
 }
 
-// The bytes that the digits of a line spell from its third byte on, as many as there is room for.
-fn spell(line: &[u8], out: &mut [u8]) -> usize {
-    let mut i = 2;
-    let mut n = 0;
-    while n < out.len() {
-        if line.len() <= i {
-            return n;
-        }
-        if line.len() - i < 2 {
-            return n;
-        }
-        out[n] = byte(line[i], line[i + 1]);
-        n += 1;
-        i += 2;
+// The bytes that digits spell two by two, as many as there is room for, and their number.
+fn spell(digits: &[u8], out: &mut [u8]) -> usize
+    ensures { result ≤ length out.new }
+{
+    let n = out.len().min(digits.len() / 2);
+    for i in 0..n {
+        out[i] = byte(digits[2 * i], digits[2 * i + 1]);
     }
     n
 }
 
-fn say_verdict(rt: &impl Print, v: Verdict) -> io::Result<()> {
+fn say_verdict(rt: &impl Print, v: Result<(), Fault>) -> io::Result<()> {
     match v {
-        Verdict::Whole => println!(rt; "whole"),
-        Verdict::Breaks(p) => println!(rt; "breaks {p}"),
-        Verdict::Deep => println!(rt; "deep"),
+        Ok(()) => println!(rt; "whole"),
+        Err(Fault::Breaks(p)) => println!(rt; "breaks {p}"),
+        Err(Fault::Deep) => println!(rt; "deep"),
     }
-}
-
-fn wide(c: u32) -> u64 {
-    c as u64
 }
 
 // The characters by their numbers.
 fn say_characters(rt: &impl Print, cs: &[u32]) -> io::Result<()> {
     for c in cs {
-        print!(rt; "{} ", wide(*c))?;
-    }
-    Ok(())
-}
-
-// The first n bytes of a run.
-fn say_bytes(rt: &impl Print, out: &[u8], n: usize) -> io::Result<()> {
-    if n <= out.len() {
-        rt.write_all(&out[..n])?;
+        print!(rt; "{c} ")?;
     }
     Ok(())
 }
 
 fn say_written(rt: &impl Print, cs: &[u32]) -> io::Result<()> {
     let mut out = [0u8; 8192];
-    let w = chars::written::write_text(cs, &mut out);
-    match w {
-        Written::Count(n) => {
+    match chars::written::write_text(cs, &mut out) {
+        Some(n) => {
             print!(rt; "| ")?;
-            say_bytes(rt, &out, n)
+            rt.write_all(&out[..n])
         }
-        Written::Short => print!(rt; "short"),
+        None => print!(rt; "short"),
     }
-}
-
-// The first n characters of a run, and their written form.
-fn say_text(rt: &impl Print, cs: &[u32], n: usize) -> io::Result<()> {
-    if n <= cs.len() {
-        say_characters(rt, &cs[..n])?;
-        say_written(rt, &cs[..n])?;
-    }
-    Ok(())
 }
 
 fn say_decoded(rt: &impl Print, s: &[u8]) -> io::Result<()> {
     let mut run = [0u32; 2048];
-    let d = chars::strings::decode(s, &mut run);
-    match d {
-        Decoded::Count(n) => {
-            say_text(rt, &run, n)?;
+    match chars::strings::decode(s, &mut run) {
+        Ok(n) => {
+            say_characters(rt, &run[..n])?;
+            say_written(rt, &run[..n])?;
         }
-        Decoded::Lone => {
-            print!(rt; "lone")?;
-        }
-        Decoded::Short => {
-            print!(rt; "short")?;
-        }
+        Err(DecodeError::Lone) => print!(rt; "lone")?,
+        Err(DecodeError::Short) => print!(rt; "short")?,
     }
     println!(rt)
 }
 
-// The answer to the first n bytes of a run.
-fn say(rt: &impl Print, letter: u8, bytes: &[u8], n: usize) -> io::Result<()> {
-    if bytes.len() < n {
-        return Ok(());
-    }
+// One line of the trials: a letter, a space, and the digits.
+fn answer(rt: &impl Print, line: &[u8]) -> io::Result<()> {
+    let (letter, digits) = match line {
+        [] => return Ok(()),
+        [letter] => (*letter, &line[1..]),
+        [letter, _, digits @ ..] => (*letter, digits),
+    };
+    let mut bytes = [0u8; 2048];
+    let n = spell(digits, &mut bytes);
     if letter == b'j' {
         return say_verdict(rt, text::scan::scan(&bytes[..n]));
     }
     say_decoded(rt, &bytes[..n])
 }
 
-// One line of the trials.
-fn answer(rt: &impl Print, line: &[u8]) -> io::Result<()> {
-    if line.len() == 0 {
-        return Ok(());
-    }
-    let mut bytes = [0u8; 2048];
-    let n = spell(line, &mut bytes);
-    say(rt, line[0], &bytes, n)
-}
-
 fn run(rt: &impl Print, s: &[u8]) -> io::Result<()> {
     let mut at = 0;
-    loop {
-        let l = chars::lines::line_at(s, at);
-        let Line::Here { end, next } = l else {
-            return Ok(());
-        };
+    while let Some(Line { end, next }) = chars::lines::line_at(s, at) {
         answer(rt, &s[at..end])?;
         at = next;
     }
+    Ok(())
 }
 
 // Reads until the run is full or the input ends, and tells how many bytes it has of it.

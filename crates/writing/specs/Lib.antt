@@ -4,3 +4,4 @@ pub mod Valid
 pub mod Showing
 pub mod Plain
 pub mod Bytes
+pub mod Spelling

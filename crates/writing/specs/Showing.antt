@@ -1,15 +1,31 @@
--- Showing: what stands in the run of bytes that a result is written to before it is handed out.
---   Shows ws at out             out, no longer than a result may be, begins with ws, which ends at place at; or ws is
---                               longer than out
---   Adds bs out at next after   whatever out showed up to at, after shows with bs behind it up to next
--- Pinned by: Laws/Showing (a run that shows nothing yet, and what it shows in the end).
-use Rattle.std.specs.Prelude.{◌≡◌, List, ◌++◌, ℕ, suc, ◌≤◌, ◌<◌, length}
-use Rattle.syntax.specs.Limits.{result_bytes}
+-- Showing: what stands in the room that a result is written to before it is handed out.
+--   Shows ws s           the sink's room begins with ws, which ends at its place; or ws is longer than the room, and
+--                        the sink is over
+--   Adds bs s t          whatever the sink showed as s, it shows as t with bs behind it, in a room as long
+--   Ends s t             the sink is over
+--   Gives s r            r is what the sink shows, if it is not over
+-- Pinned by: Laws/Showing (a sink that shows nothing yet, and what it shows in the end).
+use Rattle.std.specs.Prelude.{◌≡◌, true, false, List, ◌++◌, ℕ, ◌≤◌, ◌<◌, length, Option, IfSome, MatchOption}
+use Rattle.std.specs.Borrow.{Bor}
+use Rattle.writing.specs.declared.sink.Sink.{Sink}
 
-pub data Shows (ws : List ℕ) (at : ℕ) (out : List ℕ) : Type 0 where
-  whole : length out ≤ result_bytes → (rest : List ℕ) → out ≡ ws ++ rest → at ≡ length ws → Shows ws at out
-  over : length out ≤ result_bytes → length out < length ws → at ≡ suc result_bytes → Shows ws at out
+pub data Shows (ws : List ℕ) (s : Sink) : Type 0 where
+  whole : s.over ≡ false → s.at ≡ length ws → (rest : List ℕ) → s.room.now ≡ ws ++ rest → Shows ws s
+  over : s.over ≡ true → length s.room.now ≤ s.at → length s.room.now < length ws → Shows ws s
 
-pub record Adds (bs out : List ℕ) (at next : ℕ) (after : List ℕ) : Type 0 where
-  pub size : length after ≡ length out
-  pub adds : (ws : List ℕ) → Shows ws at out → Shows (ws ++ bs) next after
+pub record Adds (bs : List ℕ) (s t : Sink) : Type 0 where
+  pub size : length t.room.now ≡ length s.room.now
+  pub adds : (ws : List ℕ) → Shows ws s → Shows (ws ++ bs) t
+
+pub record Ends (s t : Sink) : Type 0 where
+  pub room : t.room.now ≡ s.room.now
+  pub place : t.at ≡ length s.room.now
+  pub over : t.over ≡ true
+
+pub record Gives (s : Sink) (r : Option (Bor (List ℕ))) : Type 0 where
+  pub fits : IfSome r (λ bs. length bs.now ≤ length s.room.now)
+  pub shown : (ws : List ℕ) → Shows ws s → MatchOption r (length s.room.now < length ws) (λ bs. bs.now ≡ ws)
+
+-- the bytes that a sink has room for
+abbrev pub size : Sink → ℕ
+size s = length s.room.now

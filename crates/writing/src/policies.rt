@@ -5,22 +5,21 @@ ghost use Rattle.held.specs.Lying.{Lies, Lying};
 ghost use Rattle.writing.specs.WrittenForm.{written_policy};
 ghost use Rattle.writing.specs.Showing.{Adds};
 
-use crate::{sink, statements};
+use crate::sink::Sink;
+use crate::statements;
 use held::runs;
 
-pub fn put_policy(run: &[u32], out: &mut [u8]) -> usize
+pub fn put_policy(run: &[u32], sink: &mut Sink)
     requires { Lying held run.now 0 }
-    ensures { (x : Policy) → Lies run.now 0 (held x) → Adds (written_policy x) out.old 0 result out.new }
+    ensures { (x : Policy) → Lies run.now 0 (held x) → Adds (written_policy x) sink.old sink.new }
 {
     let n = run[0] as usize;
-    let mut next = sink::put_bytes(out, 0, b"{\"Version\":\"2012-10-17\",\"Statement\":[");
+    sink.put_bytes(b"{\"Version\":\"2012-10-17\",\"Statement\":[");
     let mut p = 1usize;
-    let mut i = 0usize;
-    while i < n {
-        let before = sink::put_between(out, next, i);
-        next = statements::put_statement(run, p, out, before);
+    for i in 0..n {
+        sink.put_between(i);
+        statements::put_statement(run, p, sink);
         p = runs::statement(run, p).past;
-        i = i + 1;
     }
-    sink::put_bytes(out, next, b"]}")
+    sink.put_bytes(b"]}");
 }

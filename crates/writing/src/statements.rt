@@ -6,57 +6,59 @@ ghost use Rattle.held.specs.Places.{Labelled, held_labelled};
 ghost use Rattle.writing.specs.Showing.{Adds};
 ghost use Rattle.writing.specs.Bytes.{sid_bytes, effect_bytes, head_bytes, statement_bytes};
 
-use crate::{entries, rows, sink};
+use crate::sink::Sink;
+use crate::spelling::Form;
+use crate::{entries, rows, spelling};
 use held::{places, runs};
 
 // The Sid of the statement at a place, if it has one.
-fn put_sid(run: &[u32], p: usize, out: &mut [u8], o: usize) -> usize
+fn put_sid(run: &[u32], p: usize, sink: &mut Sink)
     requires { Lying held_labelled run.now p }
-    ensures { (x : Labelled) → Lies run.now p (held_labelled x) → Adds (sid_bytes x.label) out.old o result out.new }
+    ensures { (x : Labelled) → Lies run.now p (held_labelled x) → Adds (sid_bytes x.label) sink.old sink.new }
 {
     let n = run[p + 1] as usize;
     if n == 0 {
-        return o;
+        return;
     }
     let from = p + 2;
     let to = from + n;
-    let open = sink::put_bytes(out, o, b"\"Sid\":\"");
-    let sid = sink::put_text(out, open, &run[from..to]);
-    sink::put_bytes(out, sid, b"\",")
+    sink.put_bytes(b"\"Sid\":\"");
+    spelling::put_symbols(sink, Form::Text, &run[from..to]);
+    sink.put_bytes(b"\",");
 }
 
 // An effect, by its number.
-fn put_effect(out: &mut [u8], at: usize, effect: u32) -> usize
-    ensures { Adds (effect_bytes effect) out.old at result out.new }
+fn put_effect(sink: &mut Sink, effect: u32)
+    ensures { Adds (effect_bytes effect) sink.old sink.new }
 {
-    if effect == 1 {
-        return sink::put_bytes(out, at, b"\"Effect\":\"Allow\",");
+    match effect {
+        1 => sink.put_bytes(b"\"Effect\":\"Allow\","),
+        _ => sink.put_bytes(b"\"Effect\":\"Deny\","),
     }
-    sink::put_bytes(out, at, b"\"Effect\":\"Deny\",")
 }
 
 // A statement's beginning, up to its actions.
-pub fn put_head(run: &[u32], p: usize, out: &mut [u8], o: usize) -> usize
+pub fn put_head(run: &[u32], p: usize, sink: &mut Sink)
     requires { Lying held_statement run.now p }
-    ensures { (x : Statement) → Lies run.now p (held_statement x) → Adds (head_bytes x) out.old o result out.new }
+    ensures { (x : Statement) → Lies run.now p (held_statement x) → Adds (head_bytes x) sink.old sink.new }
 {
-    let open = sink::put(out, o, 123);
-    let sid = put_sid(run, p, out, open);
-    let effect = put_effect(out, sid, run[p]);
-    sink::put_bytes(out, effect, b"\"Action\":")
+    sink.put(b'{');
+    put_sid(run, p, sink);
+    put_effect(sink, run[p]);
+    sink.put_bytes(b"\"Action\":");
 }
 
-pub fn put_statement(run: &[u32], p: usize, out: &mut [u8], o: usize) -> usize
+pub fn put_statement(run: &[u32], p: usize, sink: &mut Sink)
     requires { Lying held_statement run.now p }
-    ensures { (x : Statement) → Lies run.now p (held_statement x) → Adds (statement_bytes x) out.old o result out.new }
+    ensures { (x : Statement) → Lies run.now p (held_statement x) → Adds (statement_bytes x) sink.old sink.new }
 {
-    let action = put_head(run, p, out, o);
+    put_head(run, p, sink);
     let a = places::behind_label(run, p);
-    let actions = entries::put_list(0, run, a, out, action);
-    let resource = sink::put_bytes(out, actions, b",\"Resource\":");
+    entries::put_list(0, run, a, sink);
+    sink.put_bytes(b",\"Resource\":");
     let b = runs::list(run, a).past;
-    let resources = entries::put_list(2, run, b, out, resource);
+    entries::put_list(2, run, b, sink);
     let c = runs::list(run, b).past;
-    let condition = rows::put_condition(run, c, out, resources);
-    sink::put(out, condition, 125)
+    rows::put_condition(run, c, sink);
+    sink.put(b'}');
 }

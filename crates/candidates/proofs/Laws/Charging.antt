@@ -4,18 +4,12 @@ use mathlib.Core.Bool.{Bool, true, false}
 use mathlib.Core.List.{List, [], ◌∷◌}
 use Prim.Native.Nat.{ℕ, zero, suc, ◌-◌, ◌≤◌, ◌<◌}
 use native.Mathlib.Omega.{arith}
-use lib.ListN.{length, take, length-take}
+use lib.ListN.{length, take}
 use Rattle.chars.specs.Base.{pick}
 use Rattle.candidates.specs.Candidates.{Candidate, under, holds}
 use Rattle.candidates.specs.Beginnings.{longest_up_to, longest}
-use Rattle.candidates.specs.Entries.{Place, legal_beginning}
-use Rattle.candidates.specs.Places.{place_number}
 use Rattle.candidates.specs.Rows.{padded, row}
 use Rattle.candidates.proofs.Laws.Fitting.{under_row}
-
--- the characters as the code hands them on
-pub part_is : (t : List ℕ) (n : ℕ) → take (n - 0) t ≡ take n t
-part_is t n = let e : n - 0 ≡ n = omega arith in ap (λ (k : ℕ). take k t) e
 
 module _ (wide : List ℕ → Bool) (t : List ℕ) where
   -- no longer one passes
@@ -33,35 +27,23 @@ module _ (wide : List ℕ → Bool) (t : List ℕ) where
       ap (λ (k : ℕ). pick (wide (take (suc n) t)) (under (take (suc n) t)) (longest_up_to wide k t)) (sym e)
 
   module _ {n : ℕ} (w : Looking n) where
-    pub looking_next : 0 < n → wide (take (n - 0) t) ≡ false → Looking (n - 1)
-    looking_next h e =
-        let f = ap wide (sym (part_is t n)) ∙ e in
+    pub looking_next : 0 < n → wide (take n t) ≡ false → Looking (n - 1)
+    looking_next h f =
         record {
           same = sym (ap (λ (b : Bool). pick b (under (take n t)) (longest_up_to wide (n - 1) t)) f)
               ∙ sym (step n h) ∙ w.same;
         }
 
     pub looking_found :
-        {out : List ℕ} → 0 < n → wide (take (n - 0) t) ≡ true
-        → out ≡ padded (3 ∷ length (take (n - 0) t) ∷ take (n - 0) t) → out ≡ row (holds (longest wide t))
-    looking_found h e g =
-        let f = ap wide (sym (part_is t n)) ∙ e in
+        {out : List ℕ} → 0 < n → wide (take n t) ≡ true
+        → out ≡ padded (3 ∷ length (take n t) ∷ take n t) → out ≡ row (holds (longest wide t))
+    looking_found h f g =
         let found = sym (ap (λ (b : Bool). pick b (under (take n t)) (longest_up_to wide (n - 1) t)) f)
         ∙ sym (step n h) ∙ w.same in
-        g ∙ sym (under_row (take (n - 0) t)) ∙ ap (λ (l : List ℕ). row (holds (under l))) (part_is t n)
-        ∙ ap (λ (c : Candidate). row (holds c)) found
+        g ∙ sym (under_row (take n t)) ∙ ap (λ (c : Candidate). row (holds c)) found
 
     pub looking_none : {out : List ℕ} → n ≤ 0 → out ≡ padded (1 ∷ []) → out ≡ row (holds (longest wide t))
     unfolding longest_up_to row
     looking_none h g =
         let e : n ≡ 0 = omega (arith, h) in
         g ∙ ap (λ (c : Candidate). row (holds c)) (ap (λ (k : ℕ). longest_up_to wide k t) (sym e) ∙ w.same)
-
--- at whichever place; the row that is lent is not touched on the way
-pub record Seeking (place : ℕ) (b t before out : List ℕ) (n : ℕ) : Type 0 where
-  pub looking : (p : Place) → place ≡ place_number p → Looking (legal_beginning p b) t n
-  pub few : n ≤ length t
-  pub size : length out ≡ length before
-
-pub part_short : (t : List ℕ) (n : ℕ) → length t ≤ 254 → length (take (n - 0) t) ≤ 254
-part_short t n h = omega (arith, length-take (n - 0) t, h)

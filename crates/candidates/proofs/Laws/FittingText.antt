@@ -10,8 +10,10 @@ use Rattle.syntax.specs.Forms.{both}
 use Rattle.decision.specs.Matching.{matches}
 use Rattle.candidates.specs.Candidates.{single, under}
 use Rattle.candidates.specs.Entries.{Place, comparison, before, legal_text, legal_beginning, wild_kind}
-use Rattle.candidates.specs.Places.{wild_number}
+use Rattle.candidates.specs.Places.{wild_of}
+use Rattle.candidates.specs.declared.kinds.Wild.TheVariants as W
 use Rattle.candidates.specs.Rows.{row_numbers, is_zero, is_row, text_in}
+use Rattle.candidates.proofs.Laws.Counting.{star_before, star_is}
 use Rattle.candidates.proofs.Laws.Forming.{both_no, both_yes}
 use Rattle.candidates.proofs.Laws.Fitting.{text_row_long, text_row_lem, single_is, under_is, single_row, under_row}
 use Rattle.candidates.proofs.Laws.FittingWild.{single_none, single_matched, under_final, under_other}
@@ -22,12 +24,6 @@ part xs = take (get_or xs 1 0 + 2 - 2) (drop 2 xs)
 
 pub part_is : (xs : List ℕ) → part xs ≡ text_in xs
 part_is xs = let e : get_or xs 1 0 + 2 - 2 ≡ get_or xs 1 0 = omega arith in ap (λ (n : ℕ). take n (drop 2 xs)) e
-
-abbrev front : List ℕ → List ℕ
-front ys = take (length ys - 1 - 0) ys
-
-front_is : (ys : List ℕ) → front ys ≡ before ys
-front_is ys = let e : length ys - 1 - 0 ≡ length ys - 1 = omega arith in ap (λ (n : ℕ). take n ys) e
 
 module _ (p : Place) (ys xs : List ℕ) (size : length xs ≡ row_numbers) where
   abbrev test : Bool
@@ -60,10 +56,7 @@ module _ (p : Place) (ys xs : List ℕ) (size : length xs ≡ row_numbers) where
             single_row_is ∙ ap (both ((wild_kind p ys).is (single (text_in xs)))) z
             ∙ both_yes ((wild_kind p ys).is (single (text_in xs)))
 
-        pub single_no_kind : wild_number ys ≡ 0 → false ≡ test
-        single_no_kind e = sym (single_held ∙ single_none p ys (text_in xs) e)
-
-        module _ (c : comparison p ≡ StringLike) (s : wild_number ys ≡ 0 → ⊥) where
+        module _ (c : comparison p ≡ StringLike) (s : wild_of ys ≡ W.Without → ⊥) where
           single_tests : test ≡ both (matches ys (part xs)) (legal_text p (part xs))
           single_tests =
               single_held ∙ single_matched p ys (text_in xs) c s
@@ -74,6 +67,10 @@ module _ (p : Place) (ys xs : List ℕ) (size : length xs ≡ row_numbers) where
 
           pub single_legal : matches ys (part xs) ≡ true → legal_text p (part xs) ≡ test
           single_legal e = sym (single_tests ∙ ap (λ (b : Bool). both b (legal_text p (part xs))) e)
+
+      pub single_none_fits : wild_of ys ≡ W.Without → false ≡ test
+      single_none_fits e =
+          sym (single_row_is ∙ ap (λ (b : Bool). both b tail) (single_none p ys (text_in xs) e))
 
   -- ---- a beginning
 
@@ -96,11 +93,12 @@ module _ (p : Place) (ys xs : List ℕ) (size : length xs ≡ row_numbers) where
             under_row_is ∙ ap (both ((wild_kind p ys).is (under (text_in xs)))) z
             ∙ both_yes ((wild_kind p ys).is (under (text_in xs)))
 
-        pub under_no_kind : (wild_number ys ≡ 1 → ⊥) → false ≡ test
-        under_no_kind s = sym (under_held ∙ under_other p ys (text_in xs) s)
-
-        pub under_legal : wild_number ys ≡ 1 → legal_beginning p (front ys) (part xs) ≡ test
+        pub under_legal : {n : ℕ} → wild_of ys ≡ W.FinalStar n → legal_beginning p (take n ys) (part xs) ≡ test
         under_legal e =
-            ap (λ (b : List ℕ). legal_beginning p b (part xs)) (front_is ys)
+            ap (λ (b : List ℕ). legal_beginning p b (part xs)) (star_before ys e)
             ∙ ap (legal_beginning p (before ys)) (part_is xs)
-            ∙ sym (under_held ∙ under_final p ys (text_in xs) e)
+            ∙ sym (under_held ∙ under_final p ys (text_in xs) (star_is ys e))
+
+      pub not_under : (wild_of ys ≡ W.FinalStar (length ys - 1) → ⊥) → false ≡ test
+      not_under s =
+          sym (under_row_is ∙ ap (λ (b : Bool). both b tail) (under_other p ys (text_in xs) s))

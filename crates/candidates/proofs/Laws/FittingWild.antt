@@ -18,7 +18,9 @@ use Rattle.candidates.specs.Candidates.{Candidate, itself, single, under, up_to,
 use Rattle.candidates.specs.Kinds.{texts, only, never}
 use Rattle.candidates.specs.Entries.{Place, comparison, meets_at, wildcards, last_of, before, legal_text, legal_beginning}
 use Rattle.candidates.specs.Entries.{wild_kind}
-use Rattle.candidates.specs.Places.{wild_number}
+use Rattle.candidates.specs.Places.{wild_of}
+use Rattle.candidates.specs.declared.kinds.Wild.{Wild}
+use Rattle.candidates.specs.declared.kinds.Wild.TheVariants as W
 use Rattle.candidates.specs.Rows.{row_numbers, row, is_zero, content_of, is_row, number_in, text_in}
 use Rattle.candidates.proofs.Laws.Forming.{both_no}
 use Rattle.candidates.proofs.Laws.Fitting.{known, single_is, under_is}
@@ -35,8 +37,8 @@ module _ (p : Place) (ys : List ℕ) where
   by_tests a b = pick a (only m) (pick b (texts m (legal_text p) (legal_beginning p (before ys)))
       (texts m (legal_text p) never))
 
-  abbrev pub number : Bool → Bool → ℕ
-  number a b = pick a 0 (pick b 1 2)
+  abbrev pub number : Bool → Bool → Wild
+  number a b = pick a W.Without (pick b (W.FinalStar (length ys - 1)) W.Others)
 
   abbrev pub no_wildcard : Bool
   no_wildcard = eqb (wildcards ys) 0
@@ -48,8 +50,8 @@ module _ (p : Place) (ys : List ℕ) where
   unfolding wild_kind
   kind_is = refl
 
-  pub number_is : wild_number ys ≡ number no_wildcard final_star
-  unfolding wild_number
+  pub number_is : wild_of ys ≡ number no_wildcard final_star
+  unfolding wild_of
   number_is = refl
 
   abbrev is_a : Candidate → Bool
@@ -75,39 +77,39 @@ module _ (p : Place) (ys : List ℕ) where
       by false false = refl
 
   module _ (t : List ℕ) where
-    pub single_none : wild_number ys ≡ 0 → is_a (single t) ≡ false
+    pub single_none : wild_of ys ≡ W.Without → is_a (single t) ≡ false
     single_none e = by_kind (single t) ∙ by no_wildcard final_star (sym number_is ∙ e)
       where
-        by : (a b : Bool) → number a b ≡ 0 → (by_tests a b).is (single t) ≡ false
+        by : (a b : Bool) → number a b ≡ W.Without → (by_tests a b).is (single t) ≡ false
         by true b e = both_no (m (text t))
-        by false true e = absurd (omega (arith, e))
-        by false false e = absurd (omega (arith, e))
+        by false true e = cc
+        by false false e = cc
 
-    single_some : (wild_number ys ≡ 0 → ⊥) → is_a (single t) ≡ both (m (text t)) (legal_text p t)
+    single_some : (wild_of ys ≡ W.Without → ⊥) → is_a (single t) ≡ both (m (text t)) (legal_text p t)
     single_some s = by_kind (single t) ∙ by no_wildcard final_star (λ e. s (number_is ∙ e))
       where
-        by : (a b : Bool) → (number a b ≡ 0 → ⊥) → (by_tests a b).is (single t) ≡ both (m (text t)) (legal_text p t)
+        by : (a b : Bool) → (number a b ≡ W.Without → ⊥) → (by_tests a b).is (single t) ≡ both (m (text t)) (legal_text p t)
         by true b s = absurd (s refl)
         by false true s = refl
         by false false s = refl
 
     pub single_matched :
-        comparison p ≡ StringLike → (wild_number ys ≡ 0 → ⊥) → is_a (single t) ≡ both (matches ys t) (legal_text p t)
+        comparison p ≡ StringLike → (wild_of ys ≡ W.Without → ⊥) → is_a (single t) ≡ both (matches ys t) (legal_text p t)
     single_matched e s =
         single_some s ∙ ap (λ (o : Operator). both (meets o (text ys) (text t)) (legal_text p t)) e
 
-    pub under_final : wild_number ys ≡ 1 → is_a (under t) ≡ legal_beginning p (before ys) t
+    pub under_final : wild_of ys ≡ W.FinalStar (length ys - 1) → is_a (under t) ≡ legal_beginning p (before ys) t
     under_final e = by_kind (under t) ∙ by no_wildcard final_star (sym number_is ∙ e)
       where
-        by : (a b : Bool) → number a b ≡ 1 → (by_tests a b).is (under t) ≡ legal_beginning p (before ys) t
-        by true b e = absurd (omega (arith, e))
+        by : (a b : Bool) → number a b ≡ W.FinalStar (length ys - 1) → (by_tests a b).is (under t) ≡ legal_beginning p (before ys) t
+        by true b e = cc
         by false true e = refl
-        by false false e = absurd (omega (arith, e))
+        by false false e = cc
 
-    pub under_other : (wild_number ys ≡ 1 → ⊥) → is_a (under t) ≡ false
+    pub under_other : (wild_of ys ≡ W.FinalStar (length ys - 1) → ⊥) → is_a (under t) ≡ false
     under_other s = by_kind (under t) ∙ by no_wildcard final_star (λ e. s (number_is ∙ e))
       where
-        by : (a b : Bool) → (number a b ≡ 1 → ⊥) → (by_tests a b).is (under t) ≡ false
+        by : (a b : Bool) → (number a b ≡ W.FinalStar (length ys - 1) → ⊥) → (by_tests a b).is (under t) ≡ false
         by true b s = refl
         by false true s = absurd (s refl)
         by false false s = refl

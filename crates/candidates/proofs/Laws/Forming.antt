@@ -1,68 +1,25 @@
 -- What is legal in a list, told by a place's number: a single text, and a beginning with its star.
-use mathlib.Core.Path.{◌≡◌, refl, sym, ap, ◌∙◌, subst}
+use mathlib.Core.Path.{◌≡◌, refl, sym, ap, ◌∙◌}
 use mathlib.Core.Bool.{Bool, true, false}
 use mathlib.Core.List.{List, [], ◌∷◌, ◌++◌, map}
-use Prim.Native.Nat.{ℕ, suc, ◌+◌, ◌-◌, ◌≤◌, ◌<◌}
+use Prim.Native.Nat.{ℕ, suc, ◌+◌, ◌≤◌, ◌<◌}
 use native.Mathlib.Numerals.{add-one}
 use native.Mathlib.Omega.{arith}
 use lib.Dec.{leb, ltb}
-use lib.ListN.{length, get_or, set, take, length-append, length-set}
-use lib.Seq.{take-suc, take-suc-set, take-length}
+use lib.ListN.{length, get_or, set, take, drop, length-append, length-set, length-drop}
+use lib.Seq.{drop-cons, set-append_seam}
 use borrow.Author.Tests.{le-leb, lt-leb, lt-ltb, le-ltb}
 use Rattle.syntax.specs.Limits.{entry_characters}
-use Rattle.syntax.specs.Policy.{star, StringEquals, StringLike, NumericLessThanEquals}
-use Rattle.syntax.specs.Forms.{both, all, is_action, is_resource}
+use Rattle.syntax.specs.Policy.{star}
+use Rattle.syntax.specs.Forms.{both, all, is_action}
 use Rattle.parts.proofs.Laws.Slots.{both_true}
 use Rattle.writing.specs.WrittenForm.{bare}
 use Rattle.candidates.specs.Beginnings.{begins}
 use Rattle.candidates.specs.Entries.{Place, in_action, in_resource, in_row, is_plain, has_form, is_legal}
 use Rattle.candidates.specs.Entries.{legal_text}
 use Rattle.candidates.specs.Entries.{legal_beginning}
-use Rattle.candidates.specs.Places.{place_number, form_of, star_of, Starts}
+use Rattle.candidates.specs.Places.{form_of, star_of, Starts}
 use Rattle.candidates.proofs.Laws.Plain.{plain_bare}
-
--- ---- forms by number
-
-module _ (p : Place) (cs : List ℕ) where
-  pub form_action : place_number p ≡ 0 → is_action cs ≡ form_of p cs
-  form_action = by p
-    where
-      by : (p : Place) → place_number p ≡ 0 → is_action cs ≡ form_of p cs
-      by in_action e = refl
-      by in_resource e = absurd (omega (arith, e))
-      by (in_row StringEquals) e = absurd (omega (arith, e))
-      by (in_row StringLike) e = absurd (omega (arith, e))
-      by (in_row NumericLessThanEquals) e = absurd (omega (arith, e))
-
-  pub form_resource : place_number p ≡ 4 → is_resource cs ≡ form_of p cs
-  form_resource = by p
-    where
-      by : (p : Place) → place_number p ≡ 4 → is_resource cs ≡ form_of p cs
-      by in_action e = absurd (omega (arith, e))
-      by in_resource e = refl
-      by (in_row StringEquals) e = absurd (omega (arith, e))
-      by (in_row StringLike) e = absurd (omega (arith, e))
-      by (in_row NumericLessThanEquals) e = absurd (omega (arith, e))
-
-  pub form_row : (place_number p ≡ 0 → ⊥) → (place_number p ≡ 4 → ⊥) → true ≡ form_of p cs
-  form_row = by p
-    where
-      by : (p : Place) → (place_number p ≡ 0 → ⊥) → (place_number p ≡ 4 → ⊥) → true ≡ form_of p cs
-      by in_action s t = absurd (s refl)
-      by in_resource s t = absurd (t refl)
-      by (in_row o) s t = refl
-
-pub star_action : (p : Place) → place_number p ≡ 0 → 42 ≡ star_of p
-star_action in_action e = refl
-star_action in_resource e = absurd (omega (arith, e))
-star_action (in_row StringEquals) e = absurd (omega (arith, e))
-star_action (in_row StringLike) e = absurd (omega (arith, e))
-star_action (in_row NumericLessThanEquals) e = absurd (omega (arith, e))
-
-pub star_other : (p : Place) → (place_number p ≡ 0 → ⊥) → star ≡ star_of p
-star_other in_action s = absurd (s refl)
-star_other in_resource s = refl
-star_other (in_row o) s = refl
 
 -- ---- tests one behind the other
 
@@ -174,42 +131,27 @@ module _ (p : Place) (b q : List ℕ) where
       ∙ ap (λ (t : Bool). both t (both (all (is_plain p) q) legal)) (lt-ltb (length b) (length q) h)
       ∙ ap (λ (t : Bool). both t legal) f ∙ ap (both form) g ∙ both_yes form ∙ form_starred p q f)
 
--- ---- a text and its star, copied
+-- ---- a text and its star
 
-pub record Copying (q before ys : List ℕ) (i : ℕ) : Type 0 where
-  pub size : length ys ≡ length before
-  pub is : take i ys ≡ take i q
-  pub few : i ≤ length q
+taken_before : (q zs : List ℕ) (a : ℕ) → take (suc (length q)) (q ++ (a ∷ zs)) ≡ q ++ (a ∷ [])
+taken_before [] zs a = refl
+taken_before (x ∷ q) zs a = ap (λ (l : List ℕ). x ∷ l) (taken_before q zs a)
 
-pub copying_start : (q before : List ℕ) → Copying q before before 0
-copying_start q before = record { size = refl; is = refl; few = omega arith }
+pub starts_set :
+    (q before : List ℕ) (a : ℕ) {front : List ℕ} → front ≡ q → length q < length before
+    → Starts q a before (set (front ++ drop (length q) before) (length q) a)
+starts_set q before a {front} e h =
+    let n = length q in
+    let d : front ++ drop n before ≡ q ++ (get_or before n 0 ∷ drop (suc n) before) =
+    ap (λ (l : List ℕ). l ++ drop n before) e ∙ ap (λ (l : List ℕ). q ++ l) (drop-cons before n 0 h) in
+    let s : set (front ++ drop n before) n a ≡ q ++ (a ∷ drop (suc n) before) =
+    ap (λ (l : List ℕ). set l n a) d ∙ set-append_seam q (get_or before n 0) (drop (suc n) before) a in
+    record {
+      size = length-set (front ++ drop n before) n a
+          ∙ omega (arith, ap length d, length-append q (get_or before n 0 ∷ drop (suc n) before), length-drop (suc n) before);
+      is = ap (take (suc n)) s ∙ taken_before q (drop (suc n) before) a;
+    }
 
-module _ {q before ys : List ℕ} {i : ℕ} (w : Copying q before ys i) where
-  pub copying_next : length q < length before → i < length q → Copying q before (set ys i (get_or q i 0)) (i + 1)
-  copying_next room h =
-      record {
-        size = length-set ys i (get_or q i 0) ∙ w.size;
-        is = ap (λ (n : ℕ). take n (set ys i (get_or q i 0))) (add-one i)
-            ∙ take-suc-set ys i (get_or q i 0) (omega (arith, w.size))
-            ∙ ap (λ (l : List ℕ). l ++ (get_or q i 0 ∷ [])) w.is ∙ sym (take-suc q i 0 h)
-            ∙ ap (λ (n : ℕ). take n q) (sym (add-one i));
-        few = omega arith;
-      }
-
-  pub copying_end : (a : ℕ) → length q < length before → length q ≤ i → Starts q a before (set ys i a)
-  copying_end a room h =
-      let e : i ≡ length q = omega (arith, w.few) in
-      record {
-        size = length-set ys i a ∙ w.size;
-        is = ap (λ (n : ℕ). take (suc n) (set ys i a)) (sym e) ∙ take-suc-set ys i a (omega (arith, w.size))
-            ∙ ap (λ (l : List ℕ). l ++ (a ∷ [])) (w.is ∙ ap (λ (n : ℕ). take n q) e ∙ take-length q);
-      }
-
-pub starts_as : {q before after : List ℕ} {a b : ℕ} → a ≡ b → Starts q a before after → Starts q b before after
-starts_as {q} {before} {after} e w = subst (λ (c : ℕ). Starts q c before after) e w
-
-pub starts_part : {q before after : List ℕ} {a : ℕ} → Starts q a before after
-    → take (length q + 1 - 0) after ≡ q ++ (a ∷ [])
-starts_part {q} {after = after} w =
-    let e : length q + 1 - 0 ≡ suc (length q) = omega arith in
-    ap (λ (n : ℕ). take n after) e ∙ w.is
+pub starts_part :
+    {q before after : List ℕ} {a : ℕ} → Starts q a before after → take (length q + 1) after ≡ q ++ (a ∷ [])
+starts_part {q} {after = after} w = ap (λ (n : ℕ). take n after) (add-one (length q)) ∙ w.is

@@ -3,7 +3,6 @@ use mathlib.Core.Path.{◌≡◌, refl, sym, ap, ◌∙◌}
 use mathlib.Core.Bool.{Bool, true, false}
 use mathlib.Core.List.{List, [], ◌∷◌}
 use Prim.Native.Nat.{ℕ, ◌-◌}
-use native.Mathlib.Omega.{arith}
 use lib.Dec.{eqb}
 use lib.ListN.{length, get_or, take}
 use borrow.Author.Tests.{eq-eqb, eqb-true}
@@ -15,9 +14,11 @@ use Rattle.candidates.specs.Candidates.{Candidate, itself, single, under, up_to,
 use Rattle.candidates.specs.Beginnings.{shared, longest}
 use Rattle.candidates.specs.Kinds.{never, text_of, one_text}
 use Rattle.candidates.specs.Entries.{Place, before, legal_beginning, wild_kind}
-use Rattle.candidates.specs.Places.{wild_number}
+use Rattle.candidates.specs.Places.{wild_of}
+use Rattle.candidates.specs.declared.kinds.Wild.TheVariants as W
 use Rattle.candidates.specs.Rows.{padded, row}
 use Rattle.candidates.specs.Joining.{Textual, no_text, whole_text, single_text, begun_text, content_text}
+use Rattle.candidates.proofs.Laws.Counting.{star_before, star_is}
 use Rattle.candidates.proofs.Laws.Encoding.{Sized, no_row, whole_row, text_row_lem, begun_row, row_injective}
 use Rattle.candidates.proofs.Laws.FittingWild.{by_tests, number, no_wildcard, final_star, kind_is, number_is}
 use Rattle.candidates.proofs.Laws.ChargingLeast.{longest_never, mark_row}
@@ -33,9 +34,9 @@ sized (begun_text h) = begun_row h
 
 marked : {c : Content} → Textual c → mark_of c ≡ 0 → c ≡ empty
 marked no_text e = refl
-marked whole_text e = absurd (omega (arith, e))
-marked (single_text h) e = absurd (omega (arith, e))
-marked (begun_text h) e = absurd (omega (arith, e))
+marked whole_text e = cc
+marked (single_text h) e = cc
+marked (begun_text h) e = cc
 
 module _ (p : Place) (ys : List ℕ) where
   module _ {xs : List ℕ} (c d : Content) where
@@ -69,10 +70,10 @@ record Single (c : Content) : Type 0 where
   is : c ≡ holds (single text)
 
 two : {c : Content} → Textual c → mark_of c ≡ 2 → Single c
-two no_text e = absurd (omega (arith, e))
-two whole_text e = absurd (omega (arith, e))
+two no_text e = cc
+two whole_text e = cc
 two (single_text {t} h) e = record { text = t; is = refl }
-two (begun_text h) e = absurd (omega (arith, e))
+two (begun_text h) e = cc
 
 -- the same text twice
 one_self : (t : List ℕ) → one_text (single t) (single t) ≡ true
@@ -109,7 +110,7 @@ module _ (p : Place) (ys : List ℕ) where
           ap (λ (x : Bool). pick x (single t) (longest (legal_beginning p (before ys)) (shared t t))) (one_self t)
       by false false = ap (λ (x : Bool). pick x (single t) (longest never (shared t t))) (one_self t)
 
-  pub join_other : (a b : Candidate) → one_text a b ≡ false → (wild_number ys ≡ 1 → ⊥) → join a b ≡ itself
+  pub join_other : (a b : Candidate) → one_text a b ≡ false → (wild_of ys ≡ W.FinalStar (length ys - 1) → ⊥) → join a b ≡ itself
   join_other a b e s = by_join a b ∙ by (no_wildcard p ys) (final_star p ys) (λ z. s (number_is p ys ∙ z))
     where
       rest : List ℕ
@@ -118,22 +119,22 @@ module _ (p : Place) (ys : List ℕ) where
       none : pick (one_text a b) a (longest never rest) ≡ itself
       none = ap (λ (x : Bool). pick x a (longest never rest)) e ∙ longest_never (length rest) rest
 
-      by : (x y : Bool) → (number p ys x y ≡ 1 → ⊥) → (by_tests p ys x y).join a b ≡ itself
+      by : (x y : Bool) → (number p ys x y ≡ W.FinalStar (length ys - 1) → ⊥) → (by_tests p ys x y).join a b ≡ itself
       by true y s = none
       by false true s = absurd (s refl)
       by false false s = none
 
   pub join_final :
-      (a b : Candidate) → one_text a b ≡ false → wild_number ys ≡ 1
+      (a b : Candidate) → one_text a b ≡ false → wild_of ys ≡ W.FinalStar (length ys - 1)
       → join a b ≡ longest (legal_beginning p (before ys)) (shared (text_of a) (text_of b))
   join_final a b e s = by_join a b ∙ by (no_wildcard p ys) (final_star p ys) (sym (number_is p ys) ∙ s)
     where
-      by : (x y : Bool) → number p ys x y ≡ 1
+      by : (x y : Bool) → number p ys x y ≡ W.FinalStar (length ys - 1)
           → (by_tests p ys x y).join a b ≡ longest (legal_beginning p (before ys)) (shared (text_of a) (text_of b))
-      by true y s = absurd (omega (arith, s))
+      by true y s = cc
       by false true s =
           ap (λ (x : Bool). pick x a (longest (legal_beginning p (before ys)) (shared (text_of a) (text_of b)))) e
-      by false false s = absurd (omega (arith, s))
+      by false false s = cc
 
   module _ {xs zs : List ℕ} (c d : Content) (tc : Textual c) (td : Textual d) (f : xs ≡ row c) (g : zs ≡ row d) where
     pub one_joined : Standing c xs → one_row xs zs ≡ true → xs ≡ row (joined (wild_kind p ys) c d)
@@ -177,21 +178,19 @@ module _ (p : Place) (ys : List ℕ) where
       one_not = not_one a b (held tc s n).is (held td r m).is s e
 
       pub joined_other :
-          {out : List ℕ} → (wild_number ys ≡ 1 → ⊥) → out ≡ padded (1 ∷ []) → out ≡ row (joined (wild_kind p ys) c d)
+          {out : List ℕ} → (wild_of ys ≡ W.FinalStar (length ys - 1) → ⊥) → out ≡ padded (1 ∷ []) → out ≡ row (joined (wild_kind p ys) c d)
       joined_other w g =
           g ∙ sym mark_row ∙ ap row (sym (joined_is ∙ ap holds (join_other a b one_not w)))
 
       pub joined_final :
-          {out : List ℕ} → wild_number ys ≡ 1
-          → out ≡ row (holds (longest (legal_beginning p (take (length ys - 1 - 0) ys))
-          (shared (content_text c) (content_text d))))
+          {out : List ℕ} {n : ℕ} → wild_of ys ≡ W.FinalStar n
+          → out ≡ row (holds (longest (legal_beginning p (take n ys)) (shared (content_text c) (content_text d))))
           → out ≡ row (joined (wild_kind p ys) c d)
       joined_final w g =
-          let k : length ys - 1 - 0 ≡ length ys - 1 = omega arith in
           let both_texts = ap (λ (x : Content). shared (content_text x) (content_text d)) (held tc s n).is
           ∙ ap (λ (x : Content). shared (text_of a) (content_text x)) (held td r m).is in
           g
-          ∙ ap (λ (j : ℕ). row (holds (longest (legal_beginning p (take j ys))
-          (shared (content_text c) (content_text d))))) k
+          ∙ ap (λ (l : List ℕ). row (holds (longest (legal_beginning p l) (shared (content_text c) (content_text d)))))
+          (star_before ys w)
           ∙ ap (λ (l : List ℕ). row (holds (longest (legal_beginning p (before ys)) l))) both_texts
-          ∙ ap row (sym (joined_is ∙ ap holds (join_final a b one_not w)))
+          ∙ ap row (sym (joined_is ∙ ap holds (join_final a b one_not (star_is ys w))))

@@ -7,17 +7,20 @@ use native.Mathlib.Decide.{dec_lt}
 use lib.ListN.{length, take, drop, length-drop, length-append, drop_of_length-le}
 use lib.Seq.{drop-drop, drop-length, take_all, take_at, drop-append-add}
 use Rattle.chars.specs.Base.{part}
-use Rattle.chars.specs.Lines.{Unbroken, none, more, Lines, nothing, last, line, unbroken, line_at}
-use Rattle.chars.specs.declared.lines.Line.TheVariants.{Here, None}
+use Rattle.chars.specs.Lines.{Unbroken, none, more, Lines, nothing, last, line, unbroken, here, line_at}
+use Rattle.std.specs.Prelude.{Some, None}
+use Rattle.chars.specs.declared.lines.Line.{Line}
 use Rattle.chars.proofs.Laws.Lines.Found.{line_lf, line_last, line_over, Cut, all, before, cut, unbroken_within}
 pub mod Found
 
 -- no line begins past the end, and a line begins anywhere else
-here_none : (e n : ℕ) → Here e n ≡ None → ⊥
+here_none : (e n : ℕ) → here e n ≡ None → ⊥
 here_none e n q = let z : ◌≡◌ {A = ℕ} 0 1 = cc in omega arith
 
-here_same : {e f n m : ℕ} → Here e n ≡ Here f m → (e ≡ f) × (n ≡ m)
-here_same q = (cc, cc)
+here_same : {e f n m : ℕ} → here e n ≡ here f m → (e ≡ f) × (n ≡ m)
+here_same {e} {f} {n} {m} q =
+    let r : ◌≡◌ {A = Line} (record { end = e; next = n }) (record { end = f; next = m }) = cc in
+    (ap (λ (l : Line). l.end) r, ap (λ (l : Line). l.next) r)
 
 line_begins : (s : List ℕ) (i : ℕ) → i < length s → line_at s i ≡ None → ⊥
 line_begins s i h q = by (dec_lt (i + unbroken (drop i s)) (length s))
@@ -65,7 +68,7 @@ module _ (s : List ℕ) (i : ℕ) (v r : List ℕ) (q : drop i s ≡ v ++ (10 �
   line_inside = let l = sym (length-drop i s) ∙ ap length q ∙ length-append v (10 ∷ r) in omega arith
 
 -- the line found, and the lines from the next place on, are the lines from here on
-pub line_here : (s : List ℕ) (i e n : ℕ) (ls : List (List ℕ)) → line_at s i ≡ Here e n → Lines (drop n s) ls
+pub line_here : (s : List ℕ) (i e n : ℕ) (ls : List (List ℕ)) → line_at s i ≡ here e n → Lines (drop n s) ls
     → Lines (drop i s) (part s i e ∷ ls)
 line_here s i e n ls q r = by (dec_lt i (length s))
   where
@@ -142,7 +145,7 @@ pub record Ahead (s : List ℕ) (i e n : ℕ) : Type 0 where
   pub next : n ≤ length s
   pub later : i < n
 
-pub line_ahead : (s : List ℕ) (i e n : ℕ) → line_at s i ≡ Here e n → Ahead s i e n
+pub line_ahead : (s : List ℕ) (i e n : ℕ) → line_at s i ≡ here e n → Ahead s i e n
 line_ahead s i e n q = by (dec_lt i (length s)) (dec_lt (i + unbroken (drop i s)) (length s))
   where
     by : Dec (i < length s) → Dec (i + unbroken (drop i s) < length s) → Ahead s i e n

@@ -1,14 +1,17 @@
 -- Laws of Putting: bytes are put all or not at all, so a run keeps its length and what is put adds up.
 --   lay_length, put_length     a run keeps its length
 --   put_append                 two things put one behind the other are put as one
+--   put_within                 what was put ends within the run
 use mathlib.Core.Path.{◌≡◌, refl, sym, ap, ◌∙◌, subst}
-use mathlib.Core.List.{List, [], ◌∷◌, ◌++◌}
-use Prim.Native.Nat.{ℕ, suc, ◌+◌, ◌≤◌, ◌<◌}
+use mathlib.Core.List.{List, [], ◌∷◌, ◌++◌, append_assoc}
+use Prim.Native.Nat.{ℕ, suc, ◌+◌, ◌-◌, ◌≤◌, ◌<◌}
 use native.Mathlib.Omega.{arith}
 use native.Mathlib.Decide.{dec_lt}
-use lib.ListN.{length, set, length-append}
-use lib.Seq.{sets, sets-eq, length-sets}
+use lib.ListN.{length, set, take, drop, length-append}
+use lib.Seq.{sets, sets-eq, length-sets, drop-drop}
 use borrow.Author.Tests.{le-leb, lt-leb}
+use borrow.Rule.Slice.PartMut.{put_mid}
+use Rattle.std.specs.Prelude.{Option, Some, None}
 use Rattle.chars.specs.Putting.{lay, put_at, Puts}
 
 pub lay_length : (xs out : List ℕ) → length (lay xs out) ≡ length out
@@ -25,19 +28,19 @@ lay_snoc (y ∷ xs) [] x = refl
 lay_snoc (y ∷ xs) (o ∷ out) x = ap (λ (l : List ℕ). y ∷ l) (lay_snoc xs out x)
 
 module _ (out : List ℕ) (at : ℕ) (bs : List ℕ) where
-  pub put_fit : at + length bs ≤ length out → put_at out at bs ≡ (at + length bs, sets out at bs)
+  pub put_fit : at + length bs ≤ length out → put_at out at bs ≡ (Some (at + length bs), sets out at bs)
   unfolding put_at
   put_fit h =
       rw (le-leb (at + length bs) (length out) h)
-      (ap {B = ℕ × List ℕ} (λ (l : List ℕ). (at + length bs, l)) (sym (sets-eq bs out at h)))
+      (ap {B = Option ℕ × List ℕ} (λ (l : List ℕ). (Some (at + length bs), l)) (sym (sets-eq bs out at h)))
 
-  pub put_none : length out < at + length bs → put_at out at bs ≡ (at, out)
+  pub put_none : length out < at + length bs → put_at out at bs ≡ (None, out)
   unfolding put_at
   put_none h = rw (lt-leb (at + length bs) (length out) h)
 
 -- what is stored where it fits is what put_at says
 pub puts_put : {out after bs : List ℕ} {at next : ℕ} → at + length bs ≤ length out → Puts out at bs next after
-    → (next, after) ≡ put_at out at bs
+    → (Some next, after) ≡ put_at out at bs
 puts_put {out} {after} {bs} {at} h p = cc (p.place, p.run, put_fit out at bs h)
 
 pub puts_as : {out after bs cs : List ℕ} {at next : ℕ} → cs ≡ bs → Puts out at bs next after → Puts out at cs next after
@@ -62,23 +65,16 @@ pub puts_room : {out after bs : List ℕ} {at next : ℕ} (n : ℕ) → Puts out
     → at + length bs + n ≤ length out → next + n ≤ length after
 puts_room {out} {after} {bs} {at} n p h = omega (arith, p.place, ap length p.run, length-sets out at bs)
 
--- stores as the code makes them
-pub two_stores : (out : List ℕ) (at a b : ℕ) → set (set out at a) (at + 1) b ≡ sets out at (a ∷ b ∷ [])
-two_stores out at a b = let e : at + 1 ≡ suc at = omega arith in rw e
-
-pub six_stores : (out : List ℕ) (at a b c d e f : ℕ)
-    → set (set (set (set (set (set out at a) (at + 1) b) (at + 2) c) (at + 3) d) (at + 4) e) (at + 5) f
-    ≡ sets out at (a ∷ b ∷ c ∷ d ∷ e ∷ f ∷ [])
-six_stores out at a b c d e f =
-    let e1 : at + 1 ≡ suc at = omega arith in
-    let e2 : at + 2 ≡ suc (suc at) = omega arith in
-    let e3 : at + 3 ≡ suc (suc (suc at)) = omega arith in
-    let e4 : at + 4 ≡ suc (suc (suc (suc at))) = omega arith in
-    let e5 : at + 5 ≡ suc (suc (suc (suc (suc at)))) = omega arith in
-    rw (e1, e2, e3, e4, e5)
+-- bytes copied over a part of the run
+pub puts_copied : {out bs mid : List ℕ} {at : ℕ} → at + length bs ≤ length out → mid ≡ bs
+    → Puts out at bs (at + length bs) (put_mid at (at + length bs - at) out mid)
+puts_copied {out} {bs} {mid} {at} h e =
+    let k : at + length bs - at ≡ length bs = omega arith in
+    let rest = drop-drop (length bs) at out in
+    record { place = refl; run = rw (e, k, rest) (sym (sets-eq bs out at h ∙ append_assoc (take at out) bs (drop (at + length bs) out))) }
 
 pub put_append : (out : List ℕ) (at : ℕ) (xs ys : List ℕ) → at + length (xs ++ ys) ≤ length out
-    → put_at (put_at out at xs).1 (put_at out at xs).0 ys ≡ put_at out at (xs ++ ys)
+    → put_at (put_at out at xs).1 (at + length xs) ys ≡ put_at out at (xs ++ ys)
 put_append out at xs ys h =
     let first : at + length xs ≤ length out = omega (arith, length-append xs ys) in
     let second : at + length xs + length ys ≤ length (sets out at xs) =
@@ -95,3 +91,19 @@ put_length out at bs = by (dec_lt (length out) (at + length bs))
     by (yes h) = rw (put_none out at bs h)
     by (no h) =
         let fit : at + length bs ≤ length out = omega arith in rw (put_fit out at bs fit) (length-sets out at bs)
+
+-- what was put ends within the run
+pub put_within : (out : List ℕ) (at : ℕ) (bs : List ℕ) {next : ℕ} {after : List ℕ} → (Some next, after) ≡ put_at out at bs
+    → next ≤ length after
+put_within out at bs {next} {after} e = by (dec_lt (length out) (at + length bs))
+  where
+    place : Option ℕ × List ℕ → Option ℕ
+    place r = r.0
+
+    by : Dec (length out < at + length bs) → next ≤ length after
+    by (yes h) = cc (ap place (e ∙ put_none out at bs h))
+    by (no h) =
+        let fit = e ∙ put_fit out at bs (omega arith) in
+        let n : next ≡ at + length bs = cc (ap place fit) in
+        let l : length after ≡ length (sets out at bs) = ap (λ (r : Option ℕ × List ℕ). length r.1) fit in
+        omega (arith, n, l, length-sets out at bs)

@@ -8,16 +8,14 @@ use Rattle.syntax.specs.Policy.{Policy, Request}
 use Rattle.decision.specs.Decision.{decide}
 use Rattle.syntax.specs.Limits.{run_numbers}
 use Rattle.held.specs.Lying.{Lies}
-use Rattle.policy.specs.Reading.{Outcome, refused, known, Rules, policy_rules, record_rules, Says, Knows, Answers}
-use Rattle.policy.specs.Reading.{Foretells}
+use Rattle.policy.specs.Reading.{Outcome, refused, known, Rules, policy_rules, record_rules, Says, Knows}
 use Rattle.decide.specs.Operations.{Decides, policy_refused, record_refused, decided, RecordDecides, refuses}
 use Rattle.decide.specs.Operations.{decides}
 use Rattle.policy.specs.declared.refusals.Refusal.{Refusal}
 use Rattle.decision.specs.declared.deciding.Decision.{Decision}
-use Rattle.policy.specs.declared.reading.Read.{Read}
-use Rattle.policy.specs.declared.reading.Read.TheVariants as R
-use Rattle.policy.specs.declared.soon.Early.{Early}
-use Rattle.policy.specs.declared.soon.Early.TheVariants as E
+use Rattle.std.specs.Prelude.{Result, Err}
+use Rattle.std.specs.Result.{IsErrAnd}
+use Rattle.std.proofs.lemmas.Result.{err_from_is_err_and}
 use Rattle.policy.proofs.Laws.Reading.{outcome, says_some, says_is}
 
 -- ---- one answer
@@ -62,26 +60,20 @@ decides_unique policy asked x y a b = decides_is a ∙ sym (decides_is b)
 
 -- ---- the runs
 
-pub early_refused : (s : List ℕ) {r : Early} {f : Refusal} → Foretells s r → r ≡ E.Refused f
-    → Says policy_rules s (refused f)
-early_refused s a e = subst (Foretells s) e a
+-- the answer where `?` hands a refusal on
+pub handed_on : {T : Type 0} (r : Result T Refusal) {f : Refusal} → IsErrAnd r (λ e. e ≡ f) → r ≡ Err f
+handed_on r e = let p = err_from_is_err_and r e in cc
 
-module _ {A : Type 0} (k : Rules A) (h : A → List ℕ) (s run : List ℕ) where
-  pub answers_held : {r : Read} {n : ℕ} → Answers k h s run r → r ≡ R.Held n → Knows k h s run n
-  answers_held a e = subst (Answers k h s run) e a
-
-  pub answers_refused : {r : Read} {f : Refusal} → Answers k h s run r → r ≡ R.Refused f → Says k s (refused f)
-  answers_refused a e = subst (Answers k h s run) e a
-
-  -- what was read lies at the run's beginning
-  pub knows_lies : {n : ℕ} → length run ≤ run_numbers → (a : Knows k h s run n) → Lies run 0 (h a.thing)
-  knows_lies {n} b a =
-      record {
-        behind = drop n run;
-        is = sym (take-append-drop n run) ∙ ap (λ (l : List ℕ). l ++ drop n run) a.is;
-        within = omega arith;
-        bounded = b;
-      }
+-- what was read lies at the run's beginning
+pub knows_lies : {A : Type 0} (k : Rules A) (h : A → List ℕ) (s run : List ℕ) {n : ℕ} → length run ≤ run_numbers
+    → (a : Knows k h s run n) → Lies run 0 (h a.thing)
+knows_lies k h s run {n} b a =
+    record {
+      behind = drop n run;
+      is = sym (take-append-drop n run) ∙ ap (λ (l : List ℕ). l ++ drop n run) a.is;
+      within = omega arith;
+      bounded = b;
+    }
 
 -- ---- the record, then the whole
 

@@ -2,7 +2,8 @@
 use mathlib.Core.Path.{◌≡◌, refl, sym, ap, ◌∙◌, subst}
 use mathlib.Core.Bool.{Bool, true, false}
 use mathlib.Core.List.{List, [], ◌∷◌}
-use Prim.Native.Nat.{ℕ, ◌<◌}
+use Prim.Native.Nat.{ℕ}
+use Rattle.std.proofs.Common.{Some, None}
 use Rattle.chars.specs.Base.{pick}
 use Rattle.syntax.specs.Forms.{same_key}
 use Rattle.syntax.specs.Policy.{Context}
@@ -21,11 +22,11 @@ module _ (k : List ℕ) (x : Context) (xs : List Context) where
   value_on e = ap (λ (t : Bool). pick t (found x.value) (value_at k xs)) e
 
   pub finds_here :
-      {run : List ℕ} {p : ℕ} {f : Found} → same_key k x.key ≡ true → Lies run p (held_context x) → 0 < p
-      → value_at k (x ∷ xs) ≡ f → Finds run p f
-  finds_here {run} {p} e l s t =
-      subst (Finds run p) (sym (value_here e) ∙ t) (record { context = x; is = refl; lies = l; some = s })
+      {run : List ℕ} {p : ℕ} {f : Found} → same_key k x.key ≡ true → Lies run p (held_context x)
+      → value_at k (x ∷ xs) ≡ f → Finds run (Some p) f
+  finds_here {run} {p} e l t =
+      subst (Finds run (Some p)) (sym (value_here e) ∙ t) (p, refl, record { context = x; is = refl; lies = l })
 
-pub finds_none : (run : List ℕ) {f : Found} (k : List ℕ) → value_at k [] ≡ f → Finds run 0 f
+pub finds_none : (run : List ℕ) {f : Found} (k : List ℕ) → value_at k [] ≡ f → Finds run None f
 unfolding value_at
-finds_none run k e = subst (Finds run 0) e refl
+finds_none run k e = subst (Finds run None) e refl

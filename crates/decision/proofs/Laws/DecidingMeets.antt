@@ -37,6 +37,12 @@ module _ (o : Operator) (v : Value) {k t : ℕ} (e : k ≡ operator_number o) (f
   pub typed_text : (k ≡ 3 → ⊥) → eqb t 1 ≡ typed o v
   typed_text h = ap (λ (z : ℕ). eqb z 1) f ∙ text_typed o v (λ z. h (e ∙ z))
 
+-- ---- a comparison of the texts at two places
+
+pub both_same :
+    (f : List ℕ → List ℕ → Bool) {xs ys x y : List ℕ} {b : Bool} → xs ≡ x → ys ≡ y → b ≡ f xs ys → b ≡ f x y
+both_same f {ys = ys} {x = x} p q e = e ∙ ap (λ (l : List ℕ). f l ys) p ∙ ap (f x) q
+
 -- ---- what meets
 
 other_number : (o : Operator) (x : Value) (m : ℕ) → (operator_number o ≡ 3 → ⊥) → false ≡ meets o x (number m)

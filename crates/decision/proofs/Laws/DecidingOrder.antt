@@ -1,29 +1,51 @@
 -- The order of the decision: statement by statement up to the first Deny that matches, with the first Allow in mind.
 use mathlib.Core.Path.{◌≡◌, refl, sym, ap, ◌∙◌}
-use mathlib.Core.Bool.{Bool, true, false}
-use mathlib.Core.List.{[], ◌∷◌}
-use Prim.Native.Nat.{ℕ, zero, suc, ◌+◌}
+use mathlib.Core.Bool.{Bool, true, false, true≢false}
+use mathlib.Core.List.{List, [], ◌∷◌}
+use Prim.Native.Nat.{ℕ, zero, suc, ◌+◌, ◌<◌}
 use native.Mathlib.Numerals.{add-one}
 use native.Mathlib.Omega.{arith}
 use Rattle.chars.specs.Base.{pick}
 use Rattle.syntax.specs.Policy.{Effect, Allow, Deny, Statement, Policy, Request}
-use Rattle.decision.specs.Matching.{matches}
 use Rattle.held.specs.Held.{effect_number, any_of}
+use Rattle.decision.specs.Matching.{matches}
+use Rattle.decision.proofs.Laws.DecidingStatement.{part_is}
 use Rattle.decision.specs.Decision.{Part, none, action, resource, row, part_of, is_none, same_effect, first_of}
 use Rattle.decision.specs.Decision.{by_deny}
 use Rattle.decision.specs.Decision.{decide}
-use Rattle.decision.specs.Deciding.{part_behind, failing_of, is_nothing, or_else}
+use Rattle.decision.specs.Deciding.{told_part, part_behind, or_else}
+use Rattle.decision.specs.declared.deciding.Failing.{Failing}
+use Rattle.std.proofs.Common.{Option, Some, None, is_some, not}
+use Rattle.std.specs.Option.{option_or}
 use Rattle.decision.specs.declared.deciding.Decision.{Decision}
 use Rattle.decision.specs.declared.deciding.Decision.TheVariants.{Denied, Allowed, Implicit}
-use Rattle.decision.proofs.Laws.DecidingStatement.{part_is}
 
 -- ---- whether a statement matches
 
-pub nothing_none : (x : Part) → is_nothing (failing_of x) ≡ is_none x
-nothing_none none = refl
-nothing_none action = refl
-nothing_none resource = refl
-nothing_none (row k w) = refl
+some_none : (x : Part) → not (is_some (told_part x)) ≡ is_none x
+some_none none = refl
+some_none action = refl
+some_none resource = refl
+some_none (row k w) = refl
+
+module _ (x : Part) {o : Option Failing} {b : Bool} (e : o ≡ told_part x) (s : b ≡ is_some o) where
+  pub not_none : b ≡ true → is_none x ≡ false
+  not_none h = sym (some_none x) ∙ ap (λ u. not (is_some u)) (sym e) ∙ ap not (sym s ∙ h)
+
+  pub is_none_told : b ≡ false → is_none x ≡ true
+  is_none_told h = sym (some_none x) ∙ ap (λ u. not (is_some u)) (sym e) ∙ ap not (sym s ∙ h)
+
+pub none_told :
+    (x : Part) {o : Option Failing} {b : Bool} → o ≡ told_part x → is_some o ≡ not b → b ≡ is_none x
+none_told x {b = b} e s = opposite b (sym s ∙ ap is_some e) ∙ some_none x
+  where
+    opposite : (c : Bool) {d : Bool} → not c ≡ d → c ≡ not d
+    opposite true h = ap not h
+    opposite false h = ap not h
+
+-- a text's comparison is that of the texts that lie there
+pub compared : (x y : List ℕ) {a b : List ℕ} {r : Bool} → a ≡ x → b ≡ y → r ≡ matches a b → r ≡ matches x y
+compared x y {b = b} e f h = h ∙ ap (λ u. matches u b) e ∙ ap (matches x) f
 
 module _ (x : Statement) (q : Request) where
   abbrev action_matches : Bool
@@ -62,6 +84,47 @@ or_first (suc a) b h = absurd (omega arith)
 pub or_kept : (a b : ℕ) → (a ≡ 0 → ⊥) → a ≡ or_else a b
 or_kept zero b h = absurd (h refl)
 or_kept (suc a) b h = refl
+
+-- ---- the statement that is kept, by its number; 0 where none is
+
+abbrev pub number : Option ℕ → ℕ
+number None = 0
+number (Some k) = k
+
+abbrev pub Kept : Option ℕ → Type 0
+Kept a = (k : ℕ) → a ≡ Some k → 0 < k
+
+pub kept_none : (a : Option ℕ) → Kept a → Kept (option_or a None)
+kept_none None h = h
+kept_none (Some j) h = h
+
+pub kept_or : (a : Option ℕ) (i : ℕ) → Kept a → Kept (option_or a (Some (i + 1)))
+kept_or None i h k e = let z : k ≡ i + 1 = cc in omega arith
+kept_or (Some j) i h k e = h k e
+
+number_or : (a : Option ℕ) (i : ℕ) → Kept a → number (option_or a (Some (i + 1))) ≡ or_else (number a) (i + 1)
+number_or None i h = refl
+number_or (Some zero) i h = absurd (omega (arith, h 0 refl))
+number_or (Some (suc j)) i h = refl
+
+or_none : (a : Option ℕ) → number (option_or a None) ≡ or_else (number a) 0
+or_none None = refl
+or_none (Some zero) = refl
+or_none (Some (suc j)) = refl
+
+pub kept_is : (a : Option ℕ) {b o : Option ℕ} → b ≡ option_or a o → o ≡ None → number b ≡ or_else (number a) 0
+kept_is a e f = ap number (e ∙ ap (option_or a) f) ∙ or_none a
+
+pub kept_some :
+    (a : Option ℕ) (i : ℕ) → Kept a → {b o : Option ℕ} → b ≡ option_or a o → o ≡ Some (i + 1)
+    → number b ≡ or_else (number a) (i + 1)
+kept_some a i h e f = ap number (e ∙ ap (option_or a) f) ∙ number_or a i h
+
+pub none_some : {k : ℕ} → None ≡ Some k → ⊥
+none_some e = true≢false (sym (ap is_some e))
+
+pub some_same : {j k : ℕ} → Some j ≡ Some k → j ≡ k
+some_same e = ap number e
 
 -- ---- the decision by statements still to come, the first of them being the k-th; a is the first Allow that matched
 
@@ -143,3 +206,13 @@ module _ (k : ℕ) (q : Request) where
   unfolding told first_of
   left_implicit zero h = refl
   left_implicit (suc a) h = absurd (omega arith)
+
+-- of the one that is kept
+module _ (k : ℕ) (q : Request) {a : Option ℕ} where
+  pub left_some : {n : ℕ} → a ≡ Some n → Kept a → Allowed n ≡ told (number a) k q []
+  left_some {n} e h =
+      let z : n ≡ number a = sym (ap number e) in
+      left_allowed k q n (λ y. absurd (omega (arith, h n e, y))) ∙ ap (λ (i : ℕ). told i k q []) z
+
+  pub left_none : a ≡ None → Implicit ≡ told (number a) k q []
+  left_none e = left_implicit k q (number a) (ap number e)

@@ -8,9 +8,8 @@ use Rattle.syntax.specs.Policy.{NumericLessThanEquals, Value, text, number, Row,
 use Rattle.syntax.specs.Forms.{both, same, lower, same_key}
 use Rattle.decision.specs.Matching.{some_ending, first, matches}
 use Rattle.held.specs.Held.{any_of}
-use Rattle.decision.specs.Decision.{missing, other_type, no_entry, Part, none, action, resource, row}
+use Rattle.decision.specs.Decision.{Why, missing, other_type, no_entry, Part, none, action, resource, row}
 use Rattle.decision.specs.Decision.{value_at, row_result, rows_from, part_of, first_of, decide}
-use Rattle.decision.specs.Deciding.{why_number}
 use Rattle.decision.specs.declared.deciding.Decision.{Decision}
 use Rattle.decision.specs.declared.deciding.Decision.TheVariants.{Denied, Allowed, Implicit}
 
@@ -22,6 +21,11 @@ decision_numbers : Decision → List ℕ
 decision_numbers Implicit = []
 decision_numbers (Allowed k) = 1 ∷ k ∷ []
 decision_numbers (Denied k) = 2 ∷ k ∷ []
+
+why_number : Why → ℕ
+why_number missing = 1
+why_number other_type = 2
+why_number no_entry = 3
 
 part_numbers : Part → List ℕ
 part_numbers none = []
@@ -106,6 +110,6 @@ trials =
     []
 
 trials_hold : all_hold trials ≡ true
-unfolding same lower same_key some_ending first matches any_of value_at row_result rows_from part_of first_of decide
+unfolding same lower same_key some_ending first matches any_of value_at row_result rows_from part_of first_of decide why_number
     decision_numbers part_numbers holds all_hold asked to matching apart with_rows under trials
 trials_hold = refl

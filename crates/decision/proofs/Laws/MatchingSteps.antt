@@ -10,8 +10,7 @@ use lib.ListN.{length, get_or}
 use borrow.Author.Tests.{eqb-true, eqb-false, eq-eqb, lt-ltb, le-ltb}
 use Rattle.chars.specs.Base.{pick}
 use Rattle.decision.specs.declared.matching.Place.{Place}
-use Rattle.decision.specs.declared.matching.Move.{Move}
-use Rattle.decision.specs.declared.matching.Move.TheVariants.{Go, Stop}
+use Rattle.std.proofs.Common.{ControlFlow, Continue, Break}
 use Rattle.syntax.specs.Policy.{star, any}
 use Rattle.syntax.specs.Forms.{either}
 use Rattle.decision.specs.Matching.{Matches, stands, matches, retry, at_end, at_symbol, next, Alike}
@@ -22,24 +21,24 @@ use Rattle.decision.proofs.Laws.MatchingPlaces.{left_both}
 use Rattle.decision.proofs.Laws.MatchingPlaces.{other_missed, short, ends_both, ends_star, end_missed}
 use Rattle.decision.proofs.Laws.MatchingPlaces.{none_left, tracks_again, left_again}
 
-pub data Turn (e t : List ℕ) (at : Place) : Move → Type 0 where
-  goes : {to : Place} → Tracks e t to → left e t to < left e t at → Turn e t at (Go to)
-  stops : {found : Bool} → found ≡ matches e t → Turn e t at (Stop found)
+pub data Turn (e t : List ℕ) (at : Place) : ControlFlow Bool Place → Type 0 where
+  goes : {to : Place} → Tracks e t to → left e t to < left e t at → Turn e t at (Continue to)
+  stops : {found : Bool} → found ≡ matches e t → Turn e t at (Break found)
 
 module _ {e t : List ℕ} {at : Place} where
-  by_test : {m n : Move} (b : Bool) → (b ≡ true → Turn e t at m) → (b ≡ false → Turn e t at n)
+  by_test : {m n : ControlFlow Bool Place} (b : Bool) → (b ≡ true → Turn e t at m) → (b ≡ false → Turn e t at n)
       → Turn e t at (pick b m n)
   by_test true p q = p refl
   by_test false p q = q refl
 
-  by_equal : {m n : Move} (i j : ℕ) → (i ≡ j → Turn e t at m) → ((i ≡ j → ⊥) → Turn e t at n)
+  by_equal : {m n : ControlFlow Bool Place} (i j : ℕ) → (i ≡ j → Turn e t at m) → ((i ≡ j → ⊥) → Turn e t at n)
       → Turn e t at (pick (eqb i j) m n)
   by_equal i j p q = by_test (eqb i j) (λ h. p (eqb-true i j h)) (λ h. q (eqb-false i j h))
 
-  found_it : Matches e t → Turn e t at (Stop true)
+  found_it : Matches e t → Turn e t at (Break true)
   found_it m = stops (sym (matches_complete m))
 
-  found_none : (Matches e t → ⊥) → Turn e t at (Stop false)
+  found_none : (Matches e t → ⊥) → Turn e t at (Break false)
   found_none n = stops (sym (matches_not e t n))
 
 module _ (e t : List ℕ) (at : Place) (w : Tracks e t at) where
@@ -63,7 +62,7 @@ module _ (e t : List ℕ) (at : Place) (w : Tracks e t at) where
       off y = end_missed e t at w z (inside y)
 
       rest : (at.character ≡ length t → ⊥) → at.behind ≡ at.symbol → Dec (0 < at.symbol)
-          → Turn e t at (Stop (ltb 0 at.symbol))
+          → Turn e t at (Break (ltb 0 at.symbol))
       rest y b (yes h) = rw (lt-ltb 0 at.symbol h) (found_it (ends_star e t at w z b h))
       rest y b (no h) = rw (le-ltb 0 at.symbol (omega arith)) (found_none (none_left e t at w (off y) (omega arith)))
 
@@ -85,22 +84,22 @@ module _ (e t : List ℕ) (at : Place) (w : Tracks e t at) where
 
   -- ---- for a loop over looks
 
-  pub next_tracks : {to : Place} → next e t at ≡ Go to → Tracks e t to
+  pub next_tracks : {to : Place} → next e t at ≡ Continue to → Tracks e t to
   next_tracks h = of (rw h at next_turn)
     where
-      of : {to : Place} → Turn e t at (Go to) → Tracks e t to
+      of : {to : Place} → Turn e t at (Continue to) → Tracks e t to
       of (goes v l) = v
 
-  pub next_less : {to : Place} → next e t at ≡ Go to → left e t to < left e t at
+  pub next_less : {to : Place} → next e t at ≡ Continue to → left e t to < left e t at
   next_less h = of (rw h at next_turn)
     where
-      of : {to : Place} → Turn e t at (Go to) → left e t to < left e t at
+      of : {to : Place} → Turn e t at (Continue to) → left e t to < left e t at
       of (goes v l) = l
 
-  pub next_answer : {found : Bool} → next e t at ≡ Stop found → found ≡ matches e t
+  pub next_answer : {found : Bool} → next e t at ≡ Break found → found ≡ matches e t
   next_answer h = of (rw h at next_turn)
     where
-      of : {found : Bool} → Turn e t at (Stop found) → found ≡ matches e t
+      of : {found : Bool} → Turn e t at (Break found) → found ≡ matches e t
       of (stops r) = r
 
 -- ---- a beginning in common

@@ -28,6 +28,7 @@ use Rattle.candidates.proofs.Laws.Contents.{holds_alike, holds_content, holds_un
 use Rattle.candidates.proofs.Laws.Entries.{whole_meets}
 use Rattle.candidates.proofs.Laws.Bounding.{counted, counted_size}
 use Rattle.candidates.proofs.Laws.Joining.{standing}
+use Rattle.rooms.specs.declared.listing.Handling.{Handling}
 use Rattle.rooms.proofs.Laws.Handling.{Handled, denied, alone, wild, bound, handles}
 use Rattle.rooms.proofs.Laws.Handling.{Mark, no_mark, a_mark, mark_only}
 use Rattle.rooms.proofs.Laws.HandlingRows.{kind_row, number_of, text_of_lem, content_none, zero_first}
@@ -156,7 +157,7 @@ module _ (s : Slot) (xs ys : List ℕ) (n : length xs ≡ row_numbers) (m : leng
   met_size : length (row_met s xs ys) ≡ row_numbers
   met_size = by (handles s)
     where
-      by : {k : ℕ} → Handled s k → length (row_met s xs ys) ≡ row_numbers
+      by : {k : Handling} → Handled s k → length (row_met s xs ys) ≡ row_numbers
       by (denied d) =
           ap (λ (c : Content). length (row (joined (slot_kind s) c (content_of ys)))) (denied_empty s xs d f)
           ∙ ap (λ (c : Content). length (row c)) (denied_empty s ys d g) ∙ empty_size

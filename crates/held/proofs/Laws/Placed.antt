@@ -98,9 +98,6 @@ module _ {A : Type 0} (h : A → List ℕ) (f : A → A → Bool) (run places : 
     pub like : has_like f x rest ≡ has_like f x xs
 
 module _ {A : Type 0} {h : A → List ℕ} {f : A → A → Bool} {run places : List ℕ} {n e : ℕ} {xs : List A} {x : A} where
-  pub left_start : Placed h run places n e xs → Left h f run places n e xs x 0
-  left_start g = record { rest = xs; each = g.each; count = omega (arith, g.count); like = refl }
-
   module _ {i : ℕ} (w : Left h f run places n e xs x i) where
     -- the next one, and those behind it
     record Turn : Type 0 where

@@ -74,11 +74,3 @@ half = 4294967296
 -- a number is its halves, the lower one below 2 ^ 32
 pub parted : (n : ℕ) → (n / half * 4294967296 + n % half ≡ n) × (n % half < 4294967296)
 parted n = (div-add-mod' n half, mod-lt n {m = half} (omega arith))
-
-pub number_whole :
-    {run : List ℕ} {p : ℕ} (n : ℕ) → Lies run p (held_number n)
-    → (get_or run p 0 - mark) * 4294967296 + get_or run (p + 1) 0 ≡ n
-number_whole {run} {p} n l =
-    let u : get_or run p 0 - mark ≡ n / 4294967296 = omega (arith, lies_first l) in
-    ap (λ (k : ℕ). k * 4294967296 + get_or run (p + 1) 0) u
-    ∙ ap (λ (k : ℕ). n / 4294967296 * 4294967296 + k) (lower_half n l) ∙ (parted n).0

@@ -63,15 +63,6 @@ module _ {run : List ℕ} {p : ℕ} where
 
 -- ---- a number before things
 
-pub behind_number :
-    {p x k : ℕ} {xs : List ℕ} {o : Bool} {r : Seen} → Passes (p + 1) xs k o r → Passes p (x ∷ xs) k o r
-behind_number q = record { past = omega (arith, q.past); many = q.many; limit = q.limit }
-
-pub list_lying :
-    {A : Type 0} {h : A → List ℕ} {run : List ℕ} {p : ℕ}
-    → Lying (held_list h) run p → LyingMany h run (p + 1) (get_or run p 0)
-list_lying y = record { things = y.thing; count = lies_first y.lies; lies = lies_next y.lies }
-
 -- as many numbers as things at least
 pub list_long :
     {A : Type 0} (h : A → List ℕ) → ((x : A) → 1 ≤ length (h x)) → (xs : List A) → length xs ≤ length (held_each h xs)
@@ -146,18 +137,6 @@ module _ {run : List ℕ} {p : ℕ} where
       → Passes p (held_value x) 1 (long_value x) (record { past = p + 2; entries = 1; over = false })
   number_passes (text cs) l h = absurd (omega (arith, lies_first l, lies_short l))
   number_passes (number n) l h = record { past = refl; many = refl; limit = refl }
-
-  pub text_passes :
-      (x : Value) → Lies run p (held_value x) → get_or run p 0 < mark
-      → Passes p (held_value x) 1 (long_value x)
-      (record { past = p + 1 + get_or run p 0; entries = 1; over = ltb entry_characters (get_or run p 0) })
-  text_passes (text cs) l h =
-      record {
-        past = omega (arith, lies_first l);
-        many = refl;
-        limit = ap (ltb entry_characters) (lies_first l);
-      }
-  text_passes (number n) l h = absurd (omega (arith, lies_first l))
 
 -- ---- rows
 

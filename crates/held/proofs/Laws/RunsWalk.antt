@@ -50,6 +50,12 @@ unfolding held_each total_of
 total_short h g s [] = omega arith
 total_short h g s (x ∷ xs) = omega (arith, s x, total_short h g s xs, length-append (h x) (held_each h xs))
 
+-- as many as there are
+pub one_each : {A : Type 0} (xs : List A) → total_of (λ (x : A). 1) xs ≡ length xs
+unfolding total_of
+one_each [] = refl
+one_each (x ∷ xs) = omega (arith, one_each xs)
+
 module _ {A : Type 0} {h : A → List ℕ} {f : A → Bool} {g : A → ℕ} {run : List ℕ} {at : ℕ} {all : List A} where
   pub walk_start : {n : ℕ} → n ≡ length all → Lies run at (held_each h all) → Walk h f g run at all n 0 at 0 false
   walk_start c l =

@@ -8,6 +8,6 @@ use Rattle.muckposy.proofs.run.Goals as goal
 
 pub refine_log-requires : goal.refine_log-requires
 refine_log-requires g c =
-    let known = c.in-Held.ensures in
+    let known = c.in-Ok.ensures in
     let lies = knows_lies policy_rules held _ _ (omega arith) known in
     record { policy = known.thing; lies = lies; sound = sound_read known.says }

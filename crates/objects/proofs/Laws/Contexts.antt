@@ -2,13 +2,11 @@
 -- of them are the entry that the object says. Entries lie behind their number, and no two of them have one key.
 use mathlib.Core.Path.{◌≡◌, refl, sym, ap, ◌∙◌, subst}
 use mathlib.Core.Bool.{Bool, true, false}
-use mathlib.Core.Logic.{◌⊎◌, ⊎_elim}
 use mathlib.Core.List.{List, [], ◌∷◌, ◌++◌}
 use Prim.Native.Nat.{ℕ, zero, suc, ◌+◌, ◌-◌, ◌≤◌, ◌<◌}
 use native.Mathlib.Omega.{arith}
 use lib.Dec.{leb}
-use lib.ListN.{length, get_or, set, length-set}
-use lib.Seq.{get_or-set_same}
+use lib.ListN.{length, get_or, set}
 use borrow.Rule.Slice.PartMut.{mid_of}
 use borrow.Author.Tests.{le-leb}
 use Rattle.chars.specs.Base.{pick}
@@ -24,15 +22,15 @@ use Rattle.syntax.specs.Members.{then, only, characters_of, Slot, none, many, on
 use Rattle.syntax.specs.Members.{differ, differing}
 use Rattle.syntax.specs.RecordLayout.{only_one, key_name_of, typed_of, context_of, same_context, contexts_of}
 use Rattle.syntax.specs.Told.{told_number}
-use Rattle.syntax.specs.declared.numbers.Number.{Number}
-use Rattle.syntax.specs.declared.numbers.Number.TheVariants as M
 use Rattle.syntax.proofs.Laws.Numbers.{number_small}
 use Rattle.held.specs.Held.{held_text, held_each, held_list, held_number, held_value, held_context}
 use Rattle.parts.specs.Slots.{word_at, which_of, Turn}
 use Rattle.parts.specs.Holding.{Extends, Laid}
-use Rattle.parts.specs.Requests.{type_named, typed_as}
+use Rattle.parts.specs.Requests.{type_named, number_of_type, typed_as}
 use Rattle.parts.specs.declared.holding.Ended.{Ended}
-use Rattle.parts.specs.declared.words.Typed.{Typed}
+use Rattle.parts.specs.declared.words.ValueType.{ValueType}
+use Rattle.parts.specs.declared.words.ValueType.TheVariants as V
+use Rattle.objects.specs.declared.members.Word.{Word}
 use Rattle.parts.proofs.Laws.Slots.{differs, distinct, both_true}
 use Rattle.parts.proofs.Laws.Extends.{extends_front, extends_kept, extends_after, extends_within}
 use Rattle.parts.proofs.Laws.Differ.{same_context_symmetric}
@@ -40,21 +38,21 @@ use Rattle.parts.proofs.Laws.Fits.{wrong_read}
 use Rattle.parts.proofs.Laws.Formed.{then_read}
 use Rattle.parts.proofs.Laws.Sofar.{apart_read}
 use Rattle.parts.proofs.Laws.Requests.Laying.{number_read, number_said, extends_one}
-use Rattle.parts.proofs.Laws.Requests.Tests.{typed_is, typed_text, typed_kind, kind_one}
+use Rattle.parts.proofs.Laws.Requests.Tests.{typed_is, typed_text, typed_kind}
 use Rattle.straight.specs.Marks.{Opened}
-use Rattle.straight.specs.Taking.{Taken, Takes, TakenSeveral}
-use Rattle.objects.specs.Telling.{TellsTo, each_in}
+use Rattle.straight.specs.Taking.{Taken, TakenSeveral}
+use Rattle.objects.specs.Telling.{Told, number_told, type_told, each_in}
 use Rattle.straight.proofs.Laws.Reads.{object_some}
 use Rattle.straight.proofs.Laws.Laying.{several_taken}
 use Rattle.straight.proofs.Laws.Lists.{elements_of}
 use Rattle.straight.proofs.Laws.Differing.{Kind}
 use Rattle.objects.specs.Spans.{from_of, to_of, behind, piece, in_turn, Span, Spanned}
-use Rattle.objects.specs.Gathering.{told, SlotFound, Parts, laid_as, told_as, Gathered, Gathers}
+use Rattle.std.specs.Prelude.{Option, Some, None}
+use Rattle.objects.specs.Gathering.{told, SlotFound, Parts, laid_as, told_as, Proper, Gathered}
 use Rattle.objects.specs.Filling.{Ready, noted}
-use Rattle.objects.specs.Contexts.{contexts, Slots, context_from, Sorted, Texting, Valued}
+use Rattle.objects.specs.Contexts.{contexts, Slots, context_from, Sorted, type_from, Texting, Valued}
 use Rattle.objects.specs.Contexts as C
 use Rattle.objects.proofs.Laws.Settling.{kept_less, extends_here}
-use Rattle.objects.proofs.Laws.Gathering.{Proper}
 use Rattle.objects.proofs.Laws.Filling.{takes_part, tells_part, required_ready, ready_still, ready_span}
 use Rattle.objects.proofs.Laws.Filling.{ready_piece, noted_length, noted_behind, noted_from, noted_to}
 use Rattle.objects.proofs.Laws.Filling.{noted_other}
@@ -87,20 +85,20 @@ turned k o h = record { from = o; to = h }
 -- ---- one member
 
 module _ (s run run' : List ℕ) (v at : ℕ) where
-  pub key_part : (r : Ended) → at ≤ length run → Takes held_text key_name_of 0 s run run' v at r
-      → Parts contexts s run run' v at 1 (laid_as r at)
+  pub key_part : (r : Ended) → at ≤ length run → Taken held_text key_name_of 0 s run run' v at r.past r.end
+      → Parts contexts s run run' v at 1 (Some (laid_as r at))
   key_part r low t =
       takes_part held_text key_name_of (λ x. omega arith) contexts 1 refl s run run' v at r (omega arith) low t
 
-  pub value_part : (r : Ended) → at ≤ length run → Takes held_text (only_one characters_of) 1 s run run' v at r
-      → Parts contexts s run run' v at 2 (laid_as r at)
+  pub value_part : (r : Ended) → at ≤ length run → Taken held_text (only_one characters_of) 1 s run run' v at r.past r.end
+      → Parts contexts s run run' v at 2 (Some (laid_as r at))
   value_part r low t =
       takes_part held_text (only_one characters_of) (λ x. omega arith) contexts 2 refl s run run' v at r (omega arith) low
       t
 
-pub type_part : (s run : List ℕ) (v at : ℕ) (r : Typed) → at ≤ length run → TellsTo type_named s v r
-    → Parts contexts s run run v at 3 (told_as r at)
-type_part s run v at r low t = tells_part type_named contexts 3 refl s run v at r low t
+pub type_part : (s run : List ℕ) (v at : ℕ) (r : Word) → at ≤ length run → Told type_told s v r.number r.end
+    → Parts contexts s run run v at 3 (Some (told_as r at))
+type_part s run v at r low t = tells_part type_told contexts 3 refl s run v at r low t
 
 -- ---- a value from a text that lies in the run
 
@@ -115,43 +113,34 @@ module _ {run m : List ℕ} (w : Texting run m) where
   texting_low : from_of m 2 ≤ length run
   texting_low = text_low w.text w.high
 
-  pub not_valued : {run₁ : List ℕ} (k : ℕ) → length run₁ ≡ length run → C.Values run run₁ m (set m 0 0) k
-  not_valued k e =
-      record {
-        size = e;
-        spans = length-set m 0 0 ∙ w.size;
-        valued = λ n x t. absurd (n (get_or-set_same m 0 0 0 (omega (arith, w.size))));
-      }
+  pub text_valued : (k : ValueType) → k ≡ V.Text → to_of m 2 - (from_of m 2 + 1) ≤ entry_characters
+      → C.Values run run m k (Some m)
+  text_valued k i few = (
+    w.size,
+    λ x t. record {
+      kept = record { size = refl; is = refl };
+      more = omega arith;
+      high = w.high;
+      from = refl;
+      to = refl;
+      value = record {
+        thing = text t.thing;
+        said = ap (λ (j : ValueType). then x (typed_as j)) i ∙ then_read (typed_as V.Text) t.said
+            ∙ typed_text t.thing (omega (arith, t.lies.place));
+        lies = t.lies;
+        inside = t.inside;
+      };
+    },
+  )
 
-  pub text_valued : (k : ℕ) → k ≡ 1 → to_of m 2 - (from_of m 2 + 1) ≤ entry_characters → C.Values run run m m k
-  text_valued k i few =
-      record {
-        size = refl;
-        spans = w.size;
-        valued = λ n x t. record {
-          kept = record { size = refl; is = refl };
-          more = omega arith;
-          high = w.high;
-          from = refl;
-          to = refl;
-          value = record {
-            thing = text t.thing;
-            said = then_read (typed_as k) t.said ∙ typed_text k t.thing i (omega (arith, t.lies.place));
-            lies = t.lies;
-            inside = t.inside;
-          };
-        };
-      }
-
-  module _ (r : Number) (e : told_number r ≡ number_in (mid_of (from_of m 2 + 1) (to_of m 2 - (from_of m 2 + 1)) run)) (k : ℕ)
-      (h : k ≡ 1 → ⊥) (n : ℕ) (i : r ≡ M.Is n) where
+  module _ (r : Option ℕ) (e : told_number r ≡ number_in (mid_of (from_of m 2 + 1) (to_of m 2 - (from_of m 2 + 1)) run))
+      (k : ValueType) (h : k ≡ V.Number) (n : ℕ) (i : r ≡ Some n) where
     pub number_little : n ≤ greatest
-    number_little =
-        number_small w.text.thing (number_read texting_low (text_laid w.text) r e k h n i)
+    number_little = number_small w.text.thing (number_read texting_low (text_laid w.text) r e n i)
 
     -- a number's halves are laid behind all parts
     pub number_valued : {run₁ : List ℕ} {q : ℕ} → Extends run run₁ (behind m) (held_number n) q
-        → C.Values run run₁ m (noted m 2 (behind m) q q) k
+        → C.Values run run₁ m k (Some (noted m 2 (behind m) q q))
     number_valued {run₁} {q} y =
         let few : 2 ≤ 5 = omega arith in
         let some : 0 < 2 = omega arith in
@@ -159,11 +148,9 @@ module _ {run m : List ℕ} (w : Texting run m) where
         let f = noted_from m 2 (behind m) q q w.size some few in
         let t = noted_to m 2 (behind m) q q w.size some few in
         let m₁ = noted m 2 (behind m) q q in
-        let z = extends_here w.high y in
-        record {
-          size = y.size;
-          spans = noted_length m 2 (behind m) q q w.size some few;
-          valued = λ o x u. record {
+        let z = extends_here w.high y in (
+          noted_length m 2 (behind m) q q w.size some few,
+          λ x u. record {
             kept = extends_kept y w.high;
             more = omega (arith, b, y.place);
             high = omega (arith, b, extends_within y w.high);
@@ -173,31 +160,32 @@ module _ {run m : List ℕ} (w : Texting run m) where
                 (λ a. absurd (omega arith));
             value = record {
               thing = P.number n;
-              said = number_said (text_low u w.high) (text_laid u) r e k h n i;
+              said = ap (λ (j : ValueType). then x (typed_as j)) h
+                  ∙ number_said (text_low u w.high) (text_laid u) r e n i;
               lies = subst (λ (p : ℕ). Extends run₁ run₁ p (held_number n) (to_of m₁ 2)) (sym f)
                   (subst (λ (p : ℕ). Extends run₁ run₁ (behind m) (held_number n) p) (sym t) z);
               inside = omega (arith, b, t);
             };
-          };
-        }
+          },
+        )
 
 -- ---- the type
 
 record TypeFound (x : Slot) (k : ℕ) : Type 0 where
   tree : Json
   here : x ≡ one tree
-  is : k ≡ type_named tree
-  some : k ≡ 0 → ⊥
+  is : Some (type_from k) ≡ type_named tree
 
-type_found : (run : List ℕ) (p : ℕ) (x : Slot) (from to : ℕ) → SlotFound (told type_named) run p x from to
+type_is : (x : Option ValueType) (k : ℕ) → Some k ≡ number_told x → Some (type_from k) ≡ x
+type_is (Some V.Text) k e = let z : k ≡ 1 = cc in ap (λ (j : ℕ). Some (type_from j)) z
+type_is (Some V.Number) k e = let z : k ≡ 2 = cc in ap (λ (j : ℕ). Some (type_from j)) z
+type_is None k e = absurd (let z : Some k ≡ None = e in cc)
+
+type_found : (run : List ℕ) (p : ℕ) (x : Slot) (from to : ℕ) → SlotFound (told type_told) run p x from to
     → (to ≡ 0 → ⊥) → TypeFound x from
 type_found run p none from to y n = absurd (n y)
 type_found run p many from to y n = absurd y
-type_found run p (one t) from to y n = record { tree = t; here = refl; is = y.is; some = y.some }
-
-kinds : {x : Slot} {k : ℕ} → TypeFound x k → (k ≡ 1) ⊎ (k ≡ 2)
-kinds f =
-    subst (λ (j : ℕ). (j ≡ 1) ⊎ (j ≡ 2)) (sym f.is) (kind_one (one f.tree) (λ q. f.some (f.is ∙ q)))
+type_found run p (one t) from to y n = record { tree = t; here = refl; is = type_is (type_named t) from y.is }
 
 -- ---- parts in the order of a context entry
 
@@ -210,9 +198,6 @@ module _ {run m : List ℕ} {at : ℕ} {x : Slots} (w : Sorted run m at x) (n₃
     (n₂ : to_of m 2 ≡ 0 → ⊥) where
   found : TypeFound x.type (from_of m 3)
   found = type_found run (behind m) x.type (from_of m 3) (to_of m 3) w.type n₃
-
-  pub type_small : from_of m 3 ≤ 2
-  type_small = ⊎_elim (λ e. omega arith) (λ e. omega arith) (kinds found)
 
   key : Ready held_text (required key_name_of x.key) run m 1
   key = required_ready held_text key_name_of run m 1 x.key w.key n₁
@@ -230,9 +215,10 @@ module _ {run m : List ℕ} {at : ℕ} {x : Slots} (w : Sorted run m at x) (n₃
         text = characters;
       }
 
-  module _ {run₁ m₁ : List ℕ} (f : C.Values run run₁ m m₁ (from_of m 3)) (n : get_or m₁ 0 0 ≡ 0 → ⊥) where
-    valued : Valued run run₁ m m₁ (from_of m 3) (required (only_one characters_of) x.value)
-    valued = f.valued n _ characters
+  module _ {run₁ m₁ : List ℕ} {kind : ValueType} (same : kind ≡ type_from (from_of m 3))
+      (f : C.Values run run₁ m kind (Some m₁)) where
+    valued : Valued run run₁ m m₁ kind (required (only_one characters_of) x.value)
+    valued = f.1 _ characters
 
     key_still : Ready held_text (required key_name_of x.key) run₁ m₁ 1
     key_still = ready_still key valued.kept valued.more valued.from valued.to
@@ -249,7 +235,7 @@ module _ {run m : List ℕ} {at : ℕ} {x : Slots} (w : Sorted run m at x) (n₃
     pub arranged_spanned : Spanned run₁ m₁ 2 (at + 1)
     arranged_spanned =
         record {
-          size = f.spans;
+          size = f.0;
           few = omega arith;
           low = omega (arith, w.low, valued.more);
           high = valued.high;
@@ -261,30 +247,29 @@ module _ {run m : List ℕ} {at : ℕ} {x : Slots} (w : Sorted run m at x) (n₃
         two_in_turn run₁ m₁ (ready_piece key_still valued.high) (ready_piece valued.value valued.high)
 
     -- the text is of the type that was named
-    said_as : typed_as (from_of m 3) characters.thing ≡ read value
-    said_as = sym (then_read (typed_as (from_of m 3)) characters.said) ∙ valued.value.said
+    said_as : typed_as kind characters.thing ≡ read value
+    said_as = sym (then_read (typed_as kind) characters.said) ∙ valued.value.said
 
     said_of : typed_of found.tree characters.thing ≡ read value
-    said_of =
-        typed_is found.tree characters.thing (λ q. found.some (found.is ∙ q))
-        ∙ ap (λ (j : ℕ). typed_as j characters.thing) (sym found.is) ∙ said_as
+    said_of = typed_is found.tree characters.thing kind (ap (λ (k : ValueType). Some k) same ∙ found.is) ∙ said_as
 
-    pub arranged_laid : {run₂ : List ℕ} {r : ℕ} → Extends run₁ run₂ (at + 1) (in_turn run₁ m₁ 2) r
-        → Laid held_context run (set run₂ at (from_of m 3)) at (context_from x) r
+    pub arranged_laid : {run₂ : List ℕ} {n r : ℕ} → n ≡ number_of_type kind
+        → Extends run₁ run₂ (at + 1) (in_turn run₁ m₁ 2) r
+        → Laid held_context run (set run₂ at n) at (context_from x) r
     unfolding context_from held_context
-    arranged_laid {run₂} {r} y =
+    arranged_laid {run₂} {n} {r} is y =
         let low = w.low in
         let high = w.high in
         let k = kept_less (at + 1) low valued.kept in
         let z = extends_after k (subst (λ (xs : List ℕ). Extends run₁ run₂ (at + 1) xs r) parts_held y) in
-        let all = extends_front (from_of m 3) (omega arith) z in
-        let kind = typed_kind (from_of m 3) characters.thing value (kinds found) said_as in
+        let all = extends_front n (omega arith) z in
         record {
           thing = record { key = key_still.thing; value = value };
           said = then_read _ key_still.said ∙ then_read _ (ap (required (λ t. read t)) found.here)
               ∙ then_read _ characters.said ∙ then_read _ said_of;
-          extends = subst (λ (q : ℕ). Extends run (set run₂ at (from_of m 3)) at
-              (q ∷ (held_text key_still.thing ++ held_value value)) r) kind all;
+          extends = subst (λ (q : ℕ). Extends run (set run₂ at n) at
+              (q ∷ (held_text key_still.thing ++ held_value value)) r)
+              (is ∙ typed_kind kind characters.thing value said_as) all;
         }
 
 -- ---- a context entry from its members
@@ -324,17 +309,14 @@ unfolding context_of context_from
 context_is ms h = ap (λ (t : Bool). pick t (context_from (slots_in ms)) wrong) (known_anyhow ms h)
 
 module _ {s run run₁ m : List ℕ} {i : ℕ} (at : ℕ) (b : length run ≤ run_numbers)
-    (g : Gathers contexts s run run₁ i (at + 1) m) (n : get_or m 0 0 ≡ 0 → ⊥) where
-  pub gone : Gathered contexts s run run₁ i (at + 1) m
-  gone = g.gathered n
-
+    (gone : Gathered contexts s run run₁ i (at + 1) m) where
   pub context_sorted : Sorted run₁ m at (slots_in gone.all)
   context_sorted =
       record {
-        size = g.spans;
+        size = gone.spans;
         low = gone.low;
         high = gone.high;
-        bounded = omega (arith, g.size, b);
+        bounded = omega (arith, gone.kept.size, b);
         key = gone.each 1 (turned 1 (omega arith) (omega arith));
         value = gone.each 2 (turned 2 (omega arith) (omega arith));
         type = gone.each 3 (turned 3 (omega arith) (omega arith));

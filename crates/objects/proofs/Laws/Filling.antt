@@ -4,7 +4,7 @@
 --   filled_other             the parts of other turns stay
 --   ready-spanned            parts that are ready may be settled
 use mathlib.Core.Path.{◌≡◌, refl, sym, ap, ◌∙◌, subst}
-use mathlib.Core.List.{List, [], ◌∷◌}
+use mathlib.Core.List.{List, [], ◌∷◌, ◌++◌}
 use Prim.Native.Nat.{ℕ, ◌+◌, ◌≤◌, ◌<◌}
 use native.Mathlib.Omega.{arith}
 use lib.ListN.{length, get_or, set, take, length-set}
@@ -15,18 +15,20 @@ use Rattle.syntax.specs.Members.{Slot, none, many, one, required, optional}
 use Rattle.held.specs.Held.{held_each, held_list}
 use Rattle.parts.specs.Holding.{Extends, Kept}
 use Rattle.parts.specs.declared.holding.Ended.{Ended}
-use Rattle.parts.specs.declared.holding.Ended.TheVariants as N
-use Rattle.parts.specs.declared.words.Typed.{Typed}
-use Rattle.parts.specs.declared.words.Typed.TheVariants as T
-use Rattle.parts.proofs.Laws.Extends.{extends_none, extends_front, extends_kept, extends_within}
+use Rattle.objects.specs.declared.members.Word.{Word}
+use Rattle.std.specs.Prelude.{Option, Some}
+use Rattle.parts.proofs.Laws.Extends.{extends_kept, extends_within}
+use Rattle.std.proofs.lemmas.Slice.{take-put_mid, put_mid-paste}
+use Rattle.std.proofs.lemmas.List.Edits.{length-paste}
+use borrow.Rule.Slice.PartMut.{put_mid}
 use Rattle.parts.proofs.Laws.Fits.{then_inv}
 use Rattle.parts.proofs.Laws.Formed.{then_read}
-use Rattle.straight.specs.Taking.{Taken, Takes}
-use Rattle.objects.specs.Telling.{TellsTo}
+use Rattle.straight.specs.Taking.{Taken}
+use Rattle.objects.specs.Telling.{Told}
 use Rattle.objects.specs.Spans.{from_of, to_of, behind, piece, Span}
 use Rattle.objects.specs.Gathering.{How, laid, told, Kinded, Laying, Found, SlotFound, PartHeld, Parts}
 use Rattle.objects.specs.Gathering.{laid_as, told_as}
-use Rattle.objects.specs.Filling.{numbers, Ready, noted, Filled, there, absent, no_room}
+use Rattle.objects.specs.Filling.{numbers, Ready, noted, Filled, there, absent}
 use Rattle.objects.proofs.Laws.Settling.{extends_here, extends_part}
 use Rattle.objects.proofs.Laws.Gathering.{extends_still, slot_still, slot_none}
 
@@ -57,13 +59,12 @@ module _ {A : Type 0} (h : A → List ℕ) (f : Json → Reading A) (some : (x :
       }
 
   pub takes_part : {d : ℕ} (s run run' : List ℕ) (v at : ℕ) (r : Ended) → d ≤ l.levels → at ≤ length run
-      → Takes h f d s run run' v at r → Parts l s run run' v at k (laid_as r at)
-  takes_part s run run' v at (N.Past p e) deep low t = taken_part deep low t
-  takes_part s run run' v at N.Wrong deep low t = t
+      → Taken h f d s run run' v at r.past r.end → Parts l s run run' v at k (Some (laid_as r at))
+  takes_part s run run' v at r deep low t = taken_part deep low t
 
-pub tells_part : (g : Json → ℕ) (l : Kinded) (k : ℕ) → l.how k ≡ told g → (s run : List ℕ) (v at : ℕ) (r : Typed)
-    → at ≤ length run → TellsTo g s v r → Parts l s run run v at k (told_as r at)
-tells_part g l k is s run v at (T.Is n e) low t =
+pub tells_part : (g : Json → Option ℕ) (l : Kinded) (k : ℕ) → l.how k ≡ told g → (s run : List ℕ) (v at : ℕ) (r : Word)
+    → at ≤ length run → Told g s v r.number r.end → Parts l s run run v at k (Some (told_as r at))
+tells_part g l k is s run v at r low t =
     record {
       tree = t.tree;
       reads = t.reads;
@@ -71,10 +72,8 @@ tells_part g l k is s run v at (T.Is n e) low t =
       kept = record { size = refl; is = refl };
       order = omega arith;
       inside = low;
-      found = subst (λ (h : How). Found h run at t.tree n 1) (sym is)
-          (record { is = t.is; some = t.some; here = refl });
+      found = subst (λ (h : How). Found h run at t.tree r.number 1) (sym is) (record { is = t.is; here = refl });
     }
-tells_part g l k is s run v at T.Wrong low t = refl
 
 -- ---- parts that are there
 
@@ -109,12 +108,6 @@ module _ (m : List ℕ) (k from to past : ℕ) (size : length m ≡ 12) (o : 0 <
   noted_length =
       length-set (set (set m (k + k) from) (k + k + 1) to) 1 past ∙ length-set (set m (k + k) from) (k + k + 1) to
       ∙ length-set m (k + k) from ∙ size
-
-  pub noted_flag : get_or (noted m k from to past) 0 0 ≡ get_or m 0 0
-  noted_flag =
-      get_or-set_other (set (set m (k + k) from) (k + k + 1) to) 1 0 past 0 (λ e. absurd (omega arith))
-      ∙ get_or-set_other (set m (k + k) from) (k + k + 1) 0 to 0 (λ e. absurd (omega arith))
-      ∙ get_or-set_other m (k + k) 0 from 0 (λ e. absurd (omega arith))
 
   pub noted_behind : behind (noted m k from to past) ≡ past
   noted_behind =
@@ -157,10 +150,9 @@ pub record Whole (run run' m m' : List ℕ) : Type 0 where
   pub kept : Kept run run' (behind m)
   pub more : behind m ≤ behind m'
   pub high : behind m' ≤ length run'
-  pub flag : get_or m' 0 0 ≡ get_or m 0 0
 
 module _ {xs run run' m m' : List ℕ} {k : ℕ} (size : length m ≡ 12) (o : 0 < k) (few : k ≤ 5)
-    (high : behind m ≤ length run) (n : get_or m' 0 0 ≡ 0 → ⊥) where
+    (high : behind m ≤ length run) where
   pub filled_whole : Filled xs run run' m m' k → Whole run run' m m'
   filled_whole (there a e q) =
       record {
@@ -168,7 +160,6 @@ module _ {xs run run' m m' : List ℕ} {k : ℕ} (size : length m ≡ 12) (o : 0
         kept = record { size = ap length q; is = ap (take (behind m)) q };
         more = subst (λ (z : List ℕ). behind m ≤ behind z) (sym e) (omega arith);
         high = omega (arith, ap behind e, ap length q);
-        flag = ap (λ (z : List ℕ). get_or z 0 0) e;
       }
   filled_whole (absent {from} {past} a e low in-past in-run x kept) =
       let b = ap behind e ∙ noted_behind m k from (from + length xs) past size o few in
@@ -177,16 +168,13 @@ module _ {xs run run' m m' : List ℕ} {k : ℕ} (size : length m ≡ 12) (o : 0
         kept = kept;
         more = omega arith;
         high = omega arith;
-        flag = ap (λ (z : List ℕ). get_or z 0 0) e ∙ noted_flag m k from (from + length xs) past size o few;
       }
-  filled_whole (no_room e q p) = absurd (n e)
 
   pub filled_place : Filled xs run run' m m' k → (j : ℕ) → 1 < j → (j ≡ k + k → ⊥) → (j ≡ k + k + 1 → ⊥)
       → get_or m' j 0 ≡ get_or m j 0
   filled_place (there a e q) j l c d = ap (λ (z : List ℕ). get_or z j 0) e
   filled_place (absent {from} {past} a e low in-past in-run x kept) j l c d =
       ap (λ (z : List ℕ). get_or z j 0) e ∙ noted_other m k from (from + length xs) past size o few j l c d
-  filled_place (no_room e q p) j l c d = absurd (n e)
 
   pub filled_other : {A : Type 0} {h : A → List ℕ} {x : Reading A} {j : ℕ} → Filled xs run run' m m' k → 0 < j
       → (j ≡ k → ⊥) → Ready h x run m j → Ready h x run' m' j
@@ -227,7 +215,6 @@ module _ {xs run run' m m' : List ℕ} {k : ℕ} (size : length m ≡ 12) (o : 0
             (subst (λ (q : ℕ). Extends run' run' from xs q) (sym v) p));
         inside = omega arith;
       }
-  filled_ready h f d x i y (no_room e q p) = absurd (n e)
 
 -- ---- all parts
 
@@ -245,23 +232,17 @@ pub nothing_held : {A : Type 0} (h : A → List ℕ) → held_list h [] ≡ 0 �
 unfolding held_each
 nothing_held h = refl
 
-pub zero_absent : {run m : List ℕ} {k : ℕ} → to_of m k ≡ 0 → behind m < length run
-    → Filled (0 ∷ []) run (set run (behind m) 0) m (noted m k (behind m) (behind m + 1) (behind m + 1)) k
-zero_absent {run} {m} e low =
-    let x = extends_front 0 low (extends_none run (behind m + 1)) in
-    absent e refl (omega arith) (omega arith) (omega (arith, length-set run (behind m) 0))
-    (extends_here (omega arith) x) (extends_kept x (omega arith))
-
-pub no_zero : {run m : List ℕ} {k : ℕ} (xs : List ℕ) → length m ≡ 12 → Filled xs run run m (set m 0 0) k
-no_zero {m = m} xs size = no_room (get_or-set_same m 0 0 0 (omega arith)) refl (length-set m 0 0)
-
-pub star_absent : {run m : List ℕ} → to_of m 2 ≡ 0 → behind m + 2 ≤ length run
-    → Filled (1 ∷ 42 ∷ []) run (set (set run (behind m + 1) 42) (behind m) 1) m
-    (noted m 2 (behind m) (behind m + 2) (behind m + 2)) 2
-star_absent {run} {m} e low =
-    let there : behind m + 1 + 1 ≡ behind m + 2 = omega arith in
-    let y = extends_front 42 (omega arith) (extends_none run (behind m + 1 + 1)) in
-    let x = subst (Extends run (set (set run (behind m + 1) 42) (behind m) 1) (behind m) (1 ∷ 42 ∷ [])) there
-    (extends_front 1 (omega arith) y) in
+pub put_absent : {run m xs ys : List ℕ} {k n : ℕ} → to_of m k ≡ 0 → ys ≡ xs → behind m + length xs ≤ length run
+    → n ≡ length xs
+    → Filled xs run (put_mid (behind m) n run ys) m (noted m k (behind m) (behind m + length xs) (behind m + length xs)) k
+put_absent {run} {m} {xs} {ys} {n = n} e same low size =
+    let x : Extends run (put_mid (behind m) n run ys) (behind m) xs (behind m + length xs) =
+    record {
+      size = ap length (put_mid-paste (behind m) n run ys xs (length xs) same (sym size) refl)
+          ∙ length-paste run (behind m) xs (length xs) low (omega arith);
+      place = refl;
+      is = take-put_mid (behind m) n run ys (behind m + length xs) (ap (λ (l : List ℕ). behind m + length l) (sym same)) (omega arith)
+          ∙ ap (λ (l : List ℕ). take (behind m) run ++ l) same;
+    } in
     absent e refl (omega arith) (omega arith) (omega (arith, x.size)) (extends_here (omega arith) x)
     (extends_kept x (omega arith))

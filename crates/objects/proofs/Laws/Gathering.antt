@@ -1,13 +1,12 @@
 -- Members are gathered one by one: whatever follows the place reached, what was passed stands before it, and of each
 -- word it is known where its value lies.
---   Proper l           no two words of a layout are alike
 --   Gathering l ..     the members passed so far
 --   gathering_more     one more, and a comma
 --   gathering_end      one more, and the end of the object
 use mathlib.Core.Path.{◌≡◌, refl, sym, ap, ◌∙◌, subst}
 use mathlib.Core.Bool.{Bool, true, false}
 use mathlib.Core.List.{List, ◌++◌}
-use Prim.Native.Nat.{ℕ, zero, suc, ◌+◌, ◌-◌, ◌≤◌, ◌<◌}
+use Prim.Native.Nat.{ℕ, ◌+◌, ◌-◌, ◌≤◌, ◌<◌}
 use native.Mathlib.Omega.{arith}
 use native.Mathlib.Decide.{dec_lt, ℕ_discrete}
 use lib.ListN.{length, get_or, set, length-set, replicate, get_or-replicate, get_or-eq_default}
@@ -19,7 +18,7 @@ use Rattle.syntax.specs.Members.{Slot, none, many, one, slot, known, is_among}
 use Rattle.parts.specs.Slots.{word_at, which_of, Turn}
 use Rattle.parts.specs.Holding.{Extends, Kept}
 use Rattle.parts.specs.Room.{Roomy}
-use Rattle.parts.proofs.Laws.Slots.{distinct, which_is, which_only, which_known, joined, joined_none, slot_other}
+use Rattle.parts.proofs.Laws.Slots.{which_is, which_only, which_known, joined, joined_none, slot_other}
 use Rattle.parts.proofs.Laws.Slots.{slot_found}
 use Rattle.straight.specs.Marks.{Unless, Named, Parted, Closed}
 use Rattle.straight.proofs.Laws.Reads.{reads_inside, reads_later, named_later, parted_later, parted_inside, member_is}
@@ -28,37 +27,23 @@ use Rattle.objects.specs.Spans.{from_of, to_of, behind}
 use Rattle.objects.specs.Gathering.{How, laid, told, Kinded, Found, SlotFound, PartHeld}
 use Rattle.objects.specs.Gathering.{is_named, Names, Parts}
 use Rattle.objects.specs.declared.members.Part.{Part}
-use Rattle.objects.specs.declared.members.Part.TheVariants as P
-use Rattle.objects.specs.declared.members.Which.{Which}
-use Rattle.objects.specs.declared.members.Which.TheVariants as W
-use Rattle.objects.specs.Gathering.{Gathers}
+use Rattle.objects.specs.declared.members.Member.{Member}
+use Rattle.objects.specs.Gathering.{Proper, Gathered}
+use Rattle.std.specs.Prelude.{Option, Some, None}
 use Rattle.objects.proofs.Laws.Settling.{kept_less}
 
--- a place that is one
-pub named_some : (k v : ℕ) → (v ≡ 0 → ⊥) → W.Is k v ≡ is_named k v
-named_some k zero n = absurd (n refl)
-named_some k (suc v) n = refl
-
 -- a name by the word of a turn
-pub names_is : (ws : List (List ℕ)) (s : List ℕ) (i k v : ℕ) (r : Which) → 0 < k → k ≤ length ws
-    → Unless v (Named s (word_at ws k) i v) → r ≡ is_named k v → Names ws s i r
-names_is ws s i k zero r o h u e = subst (Names ws s i) (sym e) tt
-names_is ws s i k (suc v) r o h u e =
-    subst (Names ws s i) (sym e) (record { from = o; to = h }, u.found (λ z. absurd (omega arith)))
+pub names_is : (ws : List (List ℕ)) (s : List ℕ) (i k : ℕ) (v : Option ℕ) (r : Option Member) → 0 < k → k ≤ length ws
+    → Unless v (Named s (word_at ws k) i) → r ≡ is_named k v → Names ws s i r
+names_is ws s i k None r o h u e = subst (Names ws s i) (sym e) tt
+names_is ws s i k (Some v) r o h u e = subst (Names ws s i) (sym e) (record { from = o; to = h }, u.found v refl)
 
-pub named_turn : (ws : List (List ℕ)) (s : List ℕ) (i : ℕ) (r : Which) (k v : ℕ) → Names ws s i r → r ≡ W.Is k v
-    → (Turn ws k) × (Named s (word_at ws k) i v)
-named_turn ws s i r k v n e = subst (Names ws s i) e n
-
-pub part_held : (l : Kinded) (s run run' : List ℕ) (v at k : ℕ) {r : Part} {from to past end : ℕ}
-    → Parts l s run run' v at k r → r ≡ P.At from to past end → PartHeld l s run run' v at k from to past end
-part_held l s run run' v at k h e = subst (Parts l s run run' v at k) e h
-
--- the same of an answer and a turn that are known
+-- an answer and a turn that are known
 pub part_is : (l : Kinded) (s run run' : List ℕ) (v at : ℕ) {k j : ℕ} {r q : Part} → k ≡ j → r ≡ q
-    → Parts l s run run' v at j q → Parts l s run run' v at k r
+    → Parts l s run run' v at j (Some q) → Parts l s run run' v at k (Some r)
 part_is l s run run' v at {j = j} {r} e f x =
-    subst (λ (k : ℕ). Parts l s run run' v at k r) (sym e) (subst (Parts l s run run' v at j) (sym f) x)
+    subst (λ (k : ℕ). Parts l s run run' v at k (Some r)) (sym e)
+    (subst (λ (q : Part). Parts l s run run' v at j (Some q)) (sym f) x)
 
 -- ---- kept parts
 
@@ -108,11 +93,6 @@ module _ (run : List ℕ) (p from to : ℕ) where
 
 -- ---- layouts
 
-pub record Proper (l : Kinded) : Type 0 where
-  pub few : length l.words ≤ 5
-  pub apart : distinct l.words ≡ true
-  pub itself : (k : ℕ) → Turn l.words k → which_of l.words (word_at l.words k) ≡ k
-
 module _ {l : Kinded} (w : Proper l) where
   turned : (k : ℕ) → Turn l.words k → which_of l.words (word_at l.words k) ≡ 0 → ⊥
   turned k t e = let a = w.itself k t in let b = t.from in absurd (omega arith)
@@ -140,7 +120,6 @@ pub record SoFar (l : Kinded) (run : List ℕ) (p : ℕ) (m : List ℕ) (put : M
 
 pub record Gathering (l : Kinded) (s run₀ run : List ℕ) (first at i p : ℕ) (m : List ℕ) : Type 0 where
   pub spans : length m ≡ 12
-  pub flag : get_or m 0 0 ≡ 0
   pub put : Members → Members
   pub reads : (us : Members) (e : ℕ) → Reads s (members us) i e → Reads s (members (put us)) first e
   pub knows : (us : Members) → known l.words us ≡ true → known l.words (put us) ≡ true
@@ -163,7 +142,6 @@ pub gathering_start : {s run : List ℕ} {i at : ℕ} (l : Kinded) → i ≤ len
 gathering_start l h a =
     record {
       spans = refl;
-      flag = refl;
       put = λ us. us;
       reads = λ us e r. r;
       knows = λ us k. k;
@@ -178,42 +156,6 @@ gathering_start l h a =
 pub gathering_roomy : {l : Kinded} {s run₀ run : List ℕ} {first at i p : ℕ} {m : List ℕ} → Roomy run₀ at 0
     → Gathering l s run₀ run first at i p m → Roomy run p 0
 gathering_roomy r g = record { room = omega (arith, g.high); bounded = omega (arith, r.bounded, g.kept.size) }
-
--- given up
-pub gathering_none : {l : Kinded} {s run₀ run run₁ : List ℕ} {first at i p : ℕ} {m : List ℕ}
-    → Gathering l s run₀ run first at i p m → length run₁ ≡ length run → Gathers l s run₀ run₁ first at m
-gathering_none g e =
-    record { size = e ∙ g.kept.size; spans = g.spans; gathered = λ n. absurd (n g.flag) }
-
--- the place of a name is noted in front
-pub gathering_mark : {l : Kinded} {s run₀ run : List ℕ} {first at i p : ℕ} {m : List ℕ} (c : ℕ)
-    → Gathering l s run₀ run first at i p m → Gathering l s run₀ run first at i p (set m 1 c)
-gathering_mark {l} {run = run} {p = p} {m} c g =
-    record {
-      spans = length-set m 1 c ∙ g.spans;
-      flag = get_or-set_other m 1 0 c 0 (λ e. absurd (omega arith)) ∙ g.flag;
-      put = g.put;
-      reads = g.reads;
-      knows = g.knows;
-      shallow = g.shallow;
-      kept = g.kept;
-      low = g.low;
-      high = g.high;
-      inside = g.inside;
-      each = λ k t. by k t (g.each k t);
-    }
-  where
-    by : (k : ℕ) → Turn l.words k → SoFar l run p m g.put k → SoFar l run p (set m 1 c) g.put k
-    by k t x =
-        let o = t.from in
-        let a = get_or-set_other m 1 (k + k) c 0 (λ e. absurd (omega arith)) in
-        let b = get_or-set_other m 1 (k + k + 1) c 0 (λ e. absurd (omega arith)) in
-        record {
-          found = x.found;
-          is = x.is;
-          lies = subst (λ (n : ℕ). SlotFound (l.how k) run p x.found n (to_of (set m 1 c) k)) (sym a)
-              (subst (λ (n : ℕ). SlotFound (l.how k) run p x.found (from_of m k) n) (sym b) x.lies);
-        }
 
 depth_named : (w : List ℕ) (t : Json) (us : Members) {n : ℕ} → depth t ≤ n → depthm us ≤ n → depthm (named w t us) ≤ n
 unfolding depthm
@@ -307,11 +249,6 @@ module _ {l : Kinded} {s run₀ run run₁ : List ℕ} {first at i p k v from to
   puts_shallow : (us : Members) → depthm us ≤ l.levels → depthm (puts us) ≤ l.levels
   puts_shallow us e = g.shallow (named word h.tree us) (depth_named word h.tree us h.shallow e)
 
-  front : get_or noted 0 0 ≡ 0
-  front =
-      let a = t.from in
-      elsewhere 0 (λ e. absurd (omega arith)) (λ e. absurd (omega arith)) ∙ g.flag
-
   module _ {c : ℕ} (d : Parted s 44 end c) where
     pub gathering_less : length s - c < length s - i
     gathering_less = omega (arith, named_later n, reads_later h.reads, parted_later d, parted_inside d)
@@ -320,7 +257,6 @@ module _ {l : Kinded} {s run₀ run run₁ : List ℕ} {first at i p k v from to
     gathering_more =
         record {
           spans = noted_length;
-          flag = front;
           put = puts;
           reads = λ us e r. puts_reads us e (object_next d r);
           knows = puts_knows;
@@ -332,15 +268,8 @@ module _ {l : Kinded} {s run₀ run run₁ : List ℕ} {first at i p k v from to
           each = slot_each;
         }
 
-  -- given up behind it
-  pub gathering_broken : Gathers l s run₀ run₁ first at noted
-  gathering_broken = record { size = gathering_size; spans = noted_length; gathered = λ n. absurd (n front) }
-
-  pub gathering_place : get_or noted 1 0 ≡ get_or m 1 0
-  gathering_place = let a = t.from in elsewhere 1 (λ e. absurd (omega arith)) (λ e. absurd (omega arith))
-
-  -- the object ends behind it, if the answer is a place
-  module _ {e : ℕ} (d : (e ≡ 0 → ⊥) → Closed s 125 end e) where
+  -- the object ends behind it
+  module _ {e : ℕ} (d : Closed s 125 end e) where
     abbrev ended : List ℕ
     ended = set (set noted 0 e) 1 past
 
@@ -377,24 +306,18 @@ module _ {l : Kinded} {s run₀ run run₁ : List ℕ} {first at i p k v from to
         subst (λ (c : Slot). SlotFound (l.how j) run₁ (behind ended) c (from_of ended j) (to_of ended j))
         (sym (x.is no_members ∙ joined_none x.found)) q
 
-    pub gathering_at : get_or ended 0 0 ≡ e
-    gathering_at = end_there
-
-    pub gathering_end : Gathers l s run₀ run₁ first at ended
+    pub gathering_end : Gathered l s run₀ run₁ first at ended
     unfolding known depthm
     gathering_end =
         record {
-          size = gathering_size;
           spans = ended_length;
-          gathered = λ o. record {
-            all = puts no_members;
-            reads = subst (λ (z : ℕ). Reads s (members (puts no_members)) first z) (sym end_there)
-                (puts_reads no_members e (object_last (d (λ q. o (end_there ∙ q)))));
-            knows = puts_knows no_members refl;
-            shallow = puts_shallow no_members (omega arith);
-            kept = kept_then g.low g.kept h.kept;
-            low = omega (arith, g.low, h.order, past_there);
-            high = omega (arith, h.inside, past_there);
-            each = ended_each;
-          };
+          all = puts no_members;
+          reads = subst (λ (z : ℕ). Reads s (members (puts no_members)) first z) (sym end_there)
+              (puts_reads no_members e (object_last d));
+          knows = puts_knows no_members refl;
+          shallow = puts_shallow no_members (omega arith);
+          kept = kept_then g.low g.kept h.kept;
+          low = omega (arith, g.low, h.order, past_there);
+          high = omega (arith, h.inside, past_there);
+          each = ended_each;
         }

@@ -7,7 +7,7 @@ use mathlib.Core.Bool.{Bool, true, false}
 use mathlib.Core.List.{List, [], ◌∷◌, map}
 use Prim.Native.Nat.{ℕ, suc, ◌≤◌, ◌<◌}
 use native.Mathlib.Omega.{arith}
-use lib.ListN.{length, drop, get_or}
+use lib.ListN.{length, drop}
 use Rattle.chars.specs.Base.{pick}
 use Rattle.chars.specs.Decoding.{text_of, same_text}
 use Rattle.text.specs.Json.{Json, Members, no_members, named, object, depth, a_value, Reads}
@@ -32,10 +32,8 @@ use Rattle.parts.proofs.Laws.Formed.{then_wrong as wrong_then}
 use Rattle.straight.specs.Marks.{Named, Parted}
 use Rattle.straight.proofs.Laws.Reads.{object_some, object_next, member_is}
 use Rattle.straight.proofs.Laws.Leading.{opened_inner, member_leads}
-use Rattle.objects.specs.Gathering.{Kinded}
-use Rattle.objects.specs.Leaving.{Wants, only, several, Came, GathersOr, Begins, Stuck}
+use Rattle.objects.specs.Leaving.{Wants, only, several, Came, Begins, Stuck}
 use Rattle.objects.specs.Leaving as Lv
-use Rattle.objects.proofs.Laws.Gathering.{Gathering, gathering_none}
 
 -- ---- one member in front of others
 
@@ -81,16 +79,6 @@ came_more {w = w} {t} g n r h p =
       strange = λ ns us z. g.strange ns (named w t us) (strange_named ns w t us z);
       wants = λ m us u z. g.wants m (named w t us) u (wants_named m w u t us z);
       leads = λ m l. seq (g.leads m l) (member_leads p m n r (omega arith));
-    }
-
--- given up at the name whose place is noted
-pub given_up : {l : Kinded} {s run₀ run run₁ : List ℕ} {first at i p : ℕ} {m : List ℕ}
-    → Gathering l s run₀ run first at i p m → Came l.levels s first i → get_or m 1 0 ≡ i → length run₁ ≡ length run
-    → GathersOr l s run₀ run₁ first at m
-given_up {l} {s} {first = first} g c e z =
-    record {
-      gathers = gathering_none g z;
-      came = λ h. subst (λ (n : ℕ). Came l.levels s first n) (sym e) c;
     }
 
 -- ---- a statement with an unfit member

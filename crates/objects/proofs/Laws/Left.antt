@@ -2,9 +2,9 @@
 --   version_reached, statement_reached   the value of Statement, behind the edition or at once
 --   gets_inside                          given up inside the value of Statement
 --   gets_behind, gets_ended              given up behind it, or the object's end
---   walks_past, gets_past                answers that are known
 --   leaves_text, finds_left              the whole text
 use mathlib.Core.Path.{◌≡◌, refl, sym, ap, ◌∙◌, subst}
+use Rattle.std.specs.Prelude.{Result, Ok, Err}
 use mathlib.Core.Bool.{true}
 use mathlib.Core.List.{List, [], ◌∷◌, ◌++◌, map}
 use Prim.Native.Nat.{ℕ}
@@ -34,17 +34,13 @@ use Rattle.straight.specs.Marks.{Closed, First, Next}
 use Rattle.straight.specs.Taking.{Taken}
 use Rattle.straight.proofs.Laws.Reads.{first_reads, next_reads}
 use Rattle.straight.proofs.Laws.Leading.{opened_inner, named_inner, shut_behind, parted_inner}
-use Rattle.objects.specs.Leaving.{within, outside, Blame, Stuck, Wants, in_policy, Ceases, policy_from, Walks, StuckIn}
+use Rattle.objects.specs.Leaving.{within, outside, Blame, Stuck, Wants, Ceases, policy_from, Walks, StuckAt, StuckIn}
 use Rattle.objects.specs.Leaving.{Gets, Leaves, Finds}
 use Rattle.objects.specs.Leaving as Lv
+use Rattle.parts.specs.declared.holding.Ended.{Ended}
 use Rattle.objects.specs.declared.leaving.Owed.{Owed}
-use Rattle.objects.specs.declared.leaving.Walked.{Walked}
-use Rattle.objects.specs.declared.leaving.Walked.TheVariants as W
 use Rattle.objects.specs.declared.leaving.Place.{Place}
 use Rattle.objects.specs.declared.leaving.Place.TheVariants as P
-use Rattle.objects.specs.declared.leaving.Gone.{Gone}
-use Rattle.objects.specs.declared.leaving.Gone.TheVariants as G
-use Rattle.objects.specs.declared.leaving.Found.TheVariants as F
 use Rattle.objects.proofs.Laws.Leaving.{wants_named, wants_first, then_wrong, pick_either}
 
 -- ---- what a policy is made of
@@ -149,32 +145,24 @@ module _ {s : List ℕ} {v b : ℕ} (r : Reached s v b) where
       }
 
   module _ (run run' : List ℕ) where
-    gets_left : (h : Walked) → Walks s run run' b h → Gets s run run' v (in_policy h)
-    gets_left (W.Past p e) w = (w.laid.extends.size, tt)
-    gets_left (W.Left i o) w = (w.0, inside_stuck i o w.1)
-    gets_left W.Wrong w = (w, tt)
+    stuck_in : (x : Place) → StuckAt s b x → StuckIn s v x
+    stuck_in P.Text k = tt
+    stuck_in (P.Behind i) k = absurd k
+    stuck_in (P.Inside i o) k = inside_stuck i o k
 
-    pub gets_inside : (h : Walked) (g : Gone) → g ≡ in_policy h → Walks s run run' b h → Gets s run run' v g
-    gets_inside h g z w = subst (Gets s run run' v) (sym z) (gets_left h w)
+    pub gets_inside : (x : Place) → Walks s run run' b (Err x) → Gets s run run' v (Err x)
+    gets_inside x w = (w.0, stuck_in x w.1)
 
     module _ {p j : ℕ} (t : Taken held policy_from 5 s run run' b 0 p j) where
-      pub gets_behind : Gets s run run' v (G.Left (P.Behind j))
+      pub gets_behind : Gets s run run' v (Err (P.Behind j))
       gets_behind = (t.laid.extends.size, behind_stuck t)
 
-      pub gets_ended : (i : ℕ) (g : Gone) → ((e : ℕ) → Closed s 125 i e → Taken held policy_of 6 s run run' v 0 p e)
+      pub gets_ended : (i : ℕ) (g : Result Ended Place)
+          → ((e : ℕ) → Closed s 125 i e → Taken held policy_of 6 s run run' v 0 p e)
           → Ceases s j i p g → Gets s run run' v g
-      gets_ended i (G.Past q e) f c =
-          subst (λ (z : ℕ). Taken held policy_of 6 s run run' v 0 z e) (sym c.0) (f e c.1)
-      gets_ended i (G.Left x) f c = subst (λ (y : Place). Gets s run run' v (G.Left y)) (sym c) gets_behind
-
--- ---- answers that are known
-
-module _ {s run run' : List ℕ} {v p e : ℕ} where
-  pub walks_past : (h : Walked) → Walks s run run' v h → h ≡ W.Past p e → Taken held policy_from 5 s run run' v 0 p e
-  walks_past h w z = subst (Walks s run run' v) z w
-
-  pub gets_past : (h : Gone) → Gets s run run' v h → h ≡ G.Past p e → Taken held policy_of 6 s run run' v 0 p e
-  gets_past h g z = subst (Gets s run run' v) z g
+      gets_ended i (Ok r) f c =
+          subst (λ (z : ℕ). Taken held policy_of 6 s run run' v 0 z r.end) (sym c.0) (f r.end c.1)
+      gets_ended i (Err x) f c = subst (λ (y : Place). Gets s run run' v (Err y)) (sym c) gets_behind
 
 -- ---- the whole text
 
@@ -199,8 +187,5 @@ module _ {s : List ℕ} {v : ℕ} (d : Done s (ws ∷ []) 0 v) where
         blames = λ w t p z. let c = root_is s v w d in k.blames t c.stop (c.stands t p) z;
       }
 
-  pub finds_left : (run run' : List ℕ) (h : Gone) (x : Place) → Gets s run run' v h → h ≡ G.Left x
-      → Finds s run run' (F.Left x)
-  finds_left run run' h x g z =
-      let l : Gets s run run' v (G.Left x) = subst (Gets s run run' v) z g in
-      (l.0, leaves_stuck x l.1)
+  pub finds_left : (run run' : List ℕ) (x : Place) → Gets s run run' v (Err x) → Finds s run run' (Err x)
+  finds_left run run' x g = (g.0, leaves_stuck x g.1)

@@ -5,6 +5,7 @@
 --   counts_closed       the list ends, or is given up behind its last statement
 --   walks_alone         a statement that stands by itself
 use mathlib.Core.Path.{◌≡◌, refl, sym, ap, ◌∙◌, subst}
+use Rattle.std.specs.Prelude.{Result, Ok, Err}
 use mathlib.Core.Bool.{Bool, false}
 use mathlib.Core.Logic.{◌⊎◌, inl, inr}
 use mathlib.Core.List.{List, [], ◌∷◌, ◌++◌, map}
@@ -43,13 +44,14 @@ use Rattle.straight.proofs.Laws.Lists.{elements_of, element_passed, more_are}
 use Rattle.straight.proofs.Laws.Going.{Going, Passed, going_size}
 use Rattle.straight.proofs.Laws.Differing.{Differing, differing_start, differing_roomy, differing_lying}
 use Rattle.straight.proofs.Laws.Differing.{differing_more, differing_end}
-use Rattle.objects.specs.declared.leaving.Stated.{Stated}
-use Rattle.objects.specs.declared.leaving.Stated.TheVariants as T
+use Rattle.parts.specs.declared.holding.Ended.{Ended}
+use Rattle.parts.specs.declared.holding.Listed.{Listed}
+use Rattle.objects.specs.declared.leaving.Lost.{Lost}
+use Rattle.objects.specs.declared.leaving.Lost.TheVariants as T
 use Rattle.objects.specs.declared.leaving.Owed.TheVariants as O
-use Rattle.objects.specs.declared.leaving.Counted.{Counted}
-use Rattle.objects.specs.declared.leaving.Counted.TheVariants as C
-use Rattle.objects.specs.Leaving.{named, within, Blame, Stuck, States, Counts, Walks, Closes, in_list, by_itself}
-use Rattle.objects.specs.Leaving.{in_value, policy_from}
+use Rattle.objects.specs.declared.leaving.Place.{Place}
+use Rattle.objects.specs.Leaving.{named, within, Blame, Stuck, StuckAt, States, Counts, Walks, Closes, inside}
+use Rattle.objects.specs.Leaving.{policy_from}
 use Rattle.objects.proofs.Laws.Policies.{statements, statements_mean}
 
 -- ---- statements are objects
@@ -62,10 +64,6 @@ statement_shut (number w) e = wrong_read e
 statement_shut (string w) e = wrong_read e
 statement_shut (list ts) e = wrong_read e
 statement_shut (object ms) e = shut_object
-
-pub states_past : (s run run₁ : List ℕ) (v at : ℕ) {r : Stated} {p e : ℕ} → States s run run₁ v at r → r ≡ T.Past p e
-    → Taken held_statement statement_of 4 s run run₁ v at p e
-states_past s run run₁ v at h z = subst (States s run run₁ v at) z h
 
 -- ---- where a list has come to
 
@@ -151,29 +149,28 @@ module _ {s run₀ run : List ℕ} {v at i p n : ℕ} {things : List Statement} 
           ap policy_from (tree_is p.reads p.ends shut_list w.reads)
           ∙ policy_fails w.all w.some_are (w.fails (first_wrong f.what h.is first_is))
 
-  pub counts_left : (run₁ : List ℕ) (h : Stated) → length run ≡ length run₀ → States s run run₁ i p h
-      → Counts s run₀ run₁ v at (in_list h)
-  counts_left run₁ (T.Past q e) z t = t.laid.extends.size ∙ z
-  counts_left run₁ (T.Left j) z t = (t.0 ∙ z, listed_stuck t.1.0 t.1.1)
-  counts_left run₁ T.Wrong z t = t ∙ z
+  left : (run₁ : List ℕ) (x : Lost) → length run ≡ length run₀ → States s run run₁ i p (Err x)
+      → Counts s run₀ run₁ v at (Err (inside x O.Listed))
+  left run₁ (T.At j) z t = (t.0 ∙ z, listed_stuck t.1.0 t.1.1)
+  left run₁ T.Whole z t = (t ∙ z, tt)
+
+  pub counts_left : (run₁ : List ℕ) {h : Result Ended Lost} {x : Lost} {y : Place} → length run ≡ length run₀
+      → States s run run₁ i p h → h ≡ Err x → y ≡ inside x O.Listed → Counts s run₀ run₁ v at (Err y)
+  counts_left run₁ {x = x} z t e f =
+      subst (λ (y : Place). Counts s run₀ run₁ v at (Err y)) (sym f) (left run₁ x z (subst (States s run run₁ i p) e t))
 
 -- ---- the end
 
-pub counts_closed : {s run₀ run₁ : List ℕ} {v at e p n : ℕ} (r : Counted) → length run₁ ≡ length run₀
+pub counts_closed : {s run₀ run₁ : List ℕ} {v at e p n : ℕ} (h : Result Listed Place) → length run₁ ≡ length run₀
     → Stuck policy_from 15 (within O.Next) (Blame O.Next s e) s v e
     → ((z : ℕ) → Closed s 93 e z
     → TakenSeveral held_statement policy_from 5 s run₀ run₁ v at p z n)
-    → Closes s e p n r → Counts s run₀ run₁ v at r
-counts_closed {s} {run₀} {run₁} {v} {at} {e} {p} {n} (C.Several q z k) l stuck ended h =
-    subst (λ (x : ℕ). TakenSeveral held_statement policy_from 5 s run₀ run₁ v at x z k) (sym h.0)
-    (subst (λ (x : ℕ). TakenSeveral held_statement policy_from 5 s run₀ run₁ v at p z x) (sym h.1.0)
-    (ended z h.1.1))
-counts_closed {s} {v = v} {e = e} (C.Left i o) l stuck ended h = (
-  l,
-  subst (λ x. Stuck policy_from 15 (within x) (Blame x s i) s v i) (sym h.1)
-      (subst (λ (x : ℕ). Stuck policy_from 15 (within O.Next) (Blame O.Next s x) s v x) (sym h.0) stuck),
-)
-counts_closed C.Wrong l stuck ended h = absurd h
+    → Closes s e p n h → Counts s run₀ run₁ v at h
+counts_closed {s} {run₀} {run₁} {v} {at} {e} {p} {n} (Ok r) l stuck ended h =
+    subst (λ (x : ℕ). TakenSeveral held_statement policy_from 5 s run₀ run₁ v at x r.end r.count) (sym h.0)
+    (subst (λ (x : ℕ). TakenSeveral held_statement policy_from 5 s run₀ run₁ v at p r.end x) (sym h.1.0)
+    (ended r.end h.1.1))
+counts_closed {s} {v = v} (Err x) l stuck ended h = (l, subst (StuckAt s v) (sym h) stuck)
 
 -- ---- the loop
 
@@ -263,7 +260,7 @@ module _ {s run₀ run run₁ places : List ℕ} {v at i p n q e : ℕ} (g : Lis
           placed = noted w;
         }
 
-    pub listing_end : (r : Counted) → Closes s e q (n + 1) r → Counts s run₀ run₁ v at r
+    pub listing_end : (r : Result Listed Place) → Closes s e q (n + 1) r → Counts s run₀ run₁ v at r
     listing_end r h =
         counts_closed r (going_size statements.frame s g.differing.going listing_passed)
         (next_stuck g.reached t)
@@ -286,26 +283,18 @@ alone_fails (string w) o r h = ap (λ (x : Reading Statement). then (cons x (rea
 alone_fails (list ts) o r h = absurd (not_list o r)
 alone_fails (object ms) o r h = ap (λ (x : Reading Statement). then (cons x (read [])) (differing same_sid)) h
 
-pub walks_alone : (s run run₁ : List ℕ) (v at : ℕ) (h : Stated) → States s run run₁ v at h
-    → Walks s run run₁ v (by_itself h)
-walks_alone s run run₁ v at (T.Past p e) t = t.laid.extends.size
-walks_alone s run run₁ v at (T.Left i) t = (
+left_alone : (s run run₁ : List ℕ) (v at : ℕ) (x : Lost) → States s run run₁ v at (Err x)
+    → Walks s run run₁ v (Err (inside x O.Alone))
+left_alone s run run₁ v at (T.At i) t = (
   t.0,
   record {
     leads = (t.1.1 14 (omega arith)).leads;
     blames = λ u e p b. alone_fails u t.1.0 p.reads ((t.1.1 14 (omega arith)).blames u e p b);
   },
 )
-walks_alone s run run₁ v at T.Wrong t = t
+left_alone s run run₁ v at T.Whole t = (t, tt)
 
--- ---- the value of Statement
-
-pub counts_past : (s run run₁ : List ℕ) (v at : ℕ) {r : Counted} {p e k : ℕ} → Counts s run run₁ v at r
-    → r ≡ C.Several p e k → TakenSeveral held_statement policy_from 5 s run run₁ v at p e k
-counts_past s run run₁ v at h z = subst (Counts s run run₁ v at) z h
-
-pub walks_listed : (s run run₁ : List ℕ) (v at : ℕ) (c : Counted) → Counts s run run₁ v at c
-    → Walks s run run₁ v (in_value c)
-walks_listed s run run₁ v at (C.Several p e k) t = t.gathered.extends.size
-walks_listed s run run₁ v at (C.Left i o) t = t
-walks_listed s run run₁ v at C.Wrong t = t
+pub walks_alone : (s run run₁ : List ℕ) (v at : ℕ) {h : Result Ended Lost} {x : Lost} {y : Place}
+    → States s run run₁ v at h → h ≡ Err x → y ≡ inside x O.Alone → Walks s run run₁ v (Err y)
+walks_alone s run run₁ v at {x = x} t e f =
+    subst (λ (y : Place). Walks s run run₁ v (Err y)) (sym f) (left_alone s run run₁ v at x (subst (States s run run₁ v at) e t))

@@ -20,13 +20,14 @@ use Rattle.parts.proofs.Laws.Slots.{differs, distinct}
 use Rattle.parts.proofs.Laws.Extends.{extends_after}
 use Rattle.parts.proofs.Laws.Formed.{then_read}
 use Rattle.straight.specs.Marks.{Opened}
-use Rattle.straight.specs.Taking.{Taken, Takes}
+use Rattle.straight.specs.Taking.{Taken}
 use Rattle.straight.proofs.Laws.Reads.{object_some}
-use Rattle.objects.specs.Spans.{to_of, behind, piece, in_turn, Span, Spanned}
-use Rattle.objects.specs.Gathering.{Parts, laid_as, Gathered}
+use Rattle.std.specs.Prelude.{Option, Some, None, IfSome}
+use Rattle.objects.specs.Spans.{to_of, piece, in_turn, Span, Spanned, Settles}
+use Rattle.objects.specs.Gathering.{Parts, laid_as, Proper, Gathered}
 use Rattle.objects.specs.Filling.{Ready, Filled}
 use Rattle.objects.specs.Records.{record_how, records, Slots, request_from, Sorted}
-use Rattle.objects.proofs.Laws.Gathering.{Proper, kept_then}
+use Rattle.objects.proofs.Laws.Gathering.{kept_then}
 use Rattle.objects.proofs.Laws.Filling.{nothing_held, takes_part, Whole, filled_whole, filled_other, filled_slot, filled_ready}
 use Rattle.objects.proofs.Laws.Filling.{required_ready, ready_span, ready_piece}
 use Rattle.objects.proofs.Laws.Settling.{kept_less}
@@ -58,19 +59,22 @@ turned k o h = record { from = o; to = h }
 -- ---- one member
 
 module _ (s run run' : List ℕ) (v at : ℕ) where
-  pub action_part : (r : Ended) → at ≤ length run → Takes held_text (only_one action_name_of) 1 s run run' v at r
-      → Parts records s run run' v at 1 (laid_as r at)
+  pub action_part : (r : Ended) → at ≤ length run
+      → Taken held_text (only_one action_name_of) 1 s run run' v at r.past r.end
+      → Parts records s run run' v at 1 (Some (laid_as r at))
   action_part r low t =
       takes_part held_text (only_one action_name_of) (λ x. omega arith) records 1 refl s run run' v at r (omega arith) low t
 
-  pub resource_part : (r : Ended) → at ≤ length run → Takes held_text (only_one resource_arn_of) 1 s run run' v at r
-      → Parts records s run run' v at 2 (laid_as r at)
+  pub resource_part : (r : Ended) → at ≤ length run
+      → Taken held_text (only_one resource_arn_of) 1 s run run' v at r.past r.end
+      → Parts records s run run' v at 2 (Some (laid_as r at))
   resource_part r low t =
       takes_part held_text (only_one resource_arn_of) (λ x. omega arith) records 2 refl s run run' v at r
       (omega arith) low t
 
-  pub contexts_part : (r : Ended) → at ≤ length run → Takes (held_list held_context) contexts_of 3 s run run' v at r
-      → Parts records s run run' v at 3 (laid_as r at)
+  pub contexts_part : (r : Ended) → at ≤ length run
+      → Taken (held_list held_context) contexts_of 3 s run run' v at r.past r.end
+      → Parts records s run run' v at 3 (Some (laid_as r at))
   contexts_part r low t =
       takes_part (held_list held_context) contexts_of (λ x. omega arith) records 3 refl s run run' v at r
       (omega arith) low t
@@ -86,36 +90,33 @@ three_in_turn run m {a} {b} {c} p q r =
     ∙ ap (λ (l : List ℕ). a ++ (l ++ piece run m 3)) q ∙ ap (λ (l : List ℕ). a ++ (b ++ l)) r
 
 module _ {run m : List ℕ} {x : Slots} (w : Sorted run m x) (n₁ : to_of m 1 ≡ 0 → ⊥) {run₁ m₁ : List ℕ}
-    (f : Filled (1 ∷ 42 ∷ []) run run₁ m m₁ 2) (n : get_or m₁ 0 0 ≡ 0 → ⊥) where
+    (f : Filled (1 ∷ 42 ∷ []) run run₁ m m₁ 2) where
   whole : Whole run run₁ m m₁
-  whole = filled_whole w.size (omega arith) (omega arith) w.high n f
+  whole = filled_whole w.size (omega arith) (omega arith) w.high f
 
-  pub star_high : behind m₁ ≤ length run₁
-  star_high = whole.high
-
-  module _ {run₂ m₂ : List ℕ} (g : Filled (0 ∷ []) run₁ run₂ m₁ m₂ 3) (n₂ : get_or m₂ 0 0 ≡ 0 → ⊥) where
+  module _ {run₂ m₂ : List ℕ} (g : Filled (0 ∷ []) run₁ run₂ m₁ m₂ 3) where
     wholly : Whole run₁ run₂ m₁ m₂
-    wholly = filled_whole whole.size (omega arith) (omega arith) whole.high n₂ g
+    wholly = filled_whole whole.size (omega arith) (omega arith) whole.high g
 
     action : Ready held_text (required (only_one action_name_of) x.action) run₂ m₂ 1
     action =
-        filled_other whole.size (omega arith) (omega arith) whole.high n₂ g (omega arith)
+        filled_other whole.size (omega arith) (omega arith) whole.high g (omega arith)
         (λ e. absurd (omega arith))
-        (filled_other w.size (omega arith) (omega arith) w.high n f (omega arith) (λ e. absurd (omega arith))
+        (filled_other w.size (omega arith) (omega arith) w.high f (omega arith) (λ e. absurd (omega arith))
         (required_ready held_text (only_one action_name_of) run m 1 x.action w.action n₁))
 
     resource : Ready held_text (optional (42 ∷ []) (only_one resource_arn_of) x.resource) run₂ m₂ 2
     resource =
-        filled_other whole.size (omega arith) (omega arith) whole.high n₂ g (omega arith)
+        filled_other whole.size (omega arith) (omega arith) whole.high g (omega arith)
         (λ e. absurd (omega arith))
-        (filled_ready w.size (omega arith) (omega arith) w.high n held_text (only_one resource_arn_of) (42 ∷ [])
+        (filled_ready w.size (omega arith) (omega arith) w.high held_text (only_one resource_arn_of) (42 ∷ [])
         x.resource refl w.resource f)
 
     contexts : Ready (held_list held_context) (optional [] contexts_of x.contexts) run₂ m₂ 3
     contexts =
-        filled_ready whole.size (omega arith) (omega arith) whole.high n₂ (held_list held_context) contexts_of []
+        filled_ready whole.size (omega arith) (omega arith) whole.high (held_list held_context) contexts_of []
         x.contexts (nothing_held held_context)
-        (filled_slot w.size (omega arith) (omega arith) w.high n (record_how 3) x.contexts 3 f (omega arith)
+        (filled_slot w.size (omega arith) (omega arith) w.high (record_how 3) x.contexts 3 f (omega arith)
         (λ e. absurd (omega arith)) w.contexts) g
 
     spans : (k : ℕ) → 0 < k → k ≤ 3 → Span m₂ k
@@ -141,7 +142,7 @@ module _ {run m : List ℕ} {x : Slots} (w : Sorted run m x) (n₁ : to_of m 1 �
         three_in_turn run₂ m₂ (ready_piece action wholly.high) (ready_piece resource wholly.high)
         (ready_piece contexts wholly.high)
 
-    pub arranged_laid : {run₃ : List ℕ} {r : ℕ} → Extends run₂ run₃ 0 (in_turn run₂ m₂ 3) r
+    arranged_laid : {run₃ : List ℕ} {r : ℕ} → Extends run₂ run₃ 0 (in_turn run₂ m₂ 3) r
         → Laid held_request run run₃ 0 (request_from x) r
     unfolding request_from held_request
     arranged_laid {run₃} {r} y =
@@ -152,6 +153,11 @@ module _ {run m : List ℕ} {x : Slots} (w : Sorted run m x) (n₁ : to_of m 1 �
           said = then_read _ action.said ∙ then_read _ resource.said ∙ then_read _ contexts.said;
           extends = extends_after k (subst (λ (xs : List ℕ). Extends run₂ run₃ 0 xs r) parts_held y);
         }
+
+    pub request_settled : (run₃ : List ℕ) (r : Option ℕ) → Settles run₂ run₃ m₂ 3 0 r
+        → IfSome r (Laid held_request run run₃ 0 (request_from x))
+    request_settled run₃ (Some p) y = arranged_laid y
+    request_settled run₃ None y = tt
 
 -- ---- a record from its members
 
@@ -167,11 +173,11 @@ request_is : (ms : Members) → known records.words ms ≡ true → request_of (
 unfolding request_of request_from
 request_is ms h = ap (λ (t : Bool). pick t (request_from (slots_in ms)) wrong) h
 
-module _ {s run run₁ m : List ℕ} {i : ℕ} (size : length m ≡ 12) (g : Gathered records s run run₁ i 0 m) where
+module _ {s run run₁ m : List ℕ} {i : ℕ} (g : Gathered records s run run₁ i 0 m) where
   pub request_sorted : Sorted run₁ m (slots_in g.all)
   request_sorted =
       record {
-        size = size;
+        size = g.spans;
         high = g.high;
         action = g.each 1 (turned 1 (omega arith) (omega arith));
         resource = g.each 2 (turned 2 (omega arith) (omega arith));

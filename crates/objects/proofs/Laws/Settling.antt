@@ -1,19 +1,19 @@
 -- Parts of a run, moved: a part lies where it lies, is kept with the run before its end, and may be put elsewhere.
 use mathlib.Core.Path.{◌≡◌, refl, sym, ap, ◌∙◌, subst}
-use mathlib.Core.Logic.{inl, inr, ⊎_elim}
+use mathlib.Core.Logic.{inl, inr}
 use mathlib.Core.List.{List, [], ◌∷◌, ◌++◌, append_assoc}
 use Prim.Native.Nat.{ℕ, ◌+◌, ◌-◌, ◌≤◌, ◌<◌}
 use native.Mathlib.Omega.{arith}
 use native.Mathlib.Numerals.{add-one}
-use lib.ListN.{length, get_or, take, drop, set}
-use lib.Seq.{take-add, take-take, drop_at, length-take-le, get_or-take, get_or-drop, drop-set-lt, drop-drop}
+use lib.ListN.{length, take, drop, length-drop}
+use lib.Seq.{take-add, take-take, drop_at, length-take-le}
+use Rattle.std.specs.List.{copy_within}
+use Rattle.std.proofs.lemmas.List.Edits.{length-paste, take-paste}
 use Rattle.chars.specs.Base.{part}
 use Rattle.text.proofs.Laws.Parts.{part_length}
 use Rattle.parts.specs.Holding.{Extends, Kept}
 use Rattle.parts.proofs.Laws.Extends.{extends_none, extends_then, extends_after, extends_within, extends_kept}
-use Rattle.straight.proofs.Laws.Strings.{bytes_none, bytes_next}
 use Rattle.objects.specs.Spans.{from_of, to_of, behind, piece, in_turn, Span, Spanned, Movable, InPlace, Copied}
-use Rattle.objects.specs.Spans.{Copies, Settles}
 use Rattle.objects.specs.declared.settling.Lined.{Lined}
 
 -- ---- parts and extensions
@@ -67,57 +67,15 @@ extends_here {run} {run'} {xs} {at} low x =
 
 -- ---- moving
 
--- so many numbers were moved; those that come next are as they were
-pub record Moving (run₀ run : List ℕ) (from at j : ℕ) : Type 0 where
-  pub extends : Extends run₀ run at (part run₀ from (from + j)) (at + j)
-  pub later : drop (at + j) run ≡ drop (at + j) run₀
-
-module _ {run₀ : List ℕ} {from to at : ℕ} (m : Movable run₀ from to at) where
-  pub moving_start : Moving run₀ run₀ from at 0
-  moving_start = record { extends = bytes_none run₀ run₀ from at; later = refl }
-
-  module _ {run : List ℕ} {j : ℕ} (g : Moving run₀ run from at j) (h : j < to - from) where
-    pub moving_size : length run ≡ length run₀
-    moving_size = g.extends.size
-
-    -- the number that is moved next
-    moving_next : get_or run (from + j) 0 ≡ get_or run₀ (from + j) 0
-    moving_next = ⊎_elim ahead past m.apart
-      where
-        ahead : at ≤ from → get_or run (from + j) 0 ≡ get_or run₀ (from + j) 0
-        ahead l =
-            let e : at + j + (from - at) ≡ from + j = omega arith in
-            ap (λ (n : ℕ). get_or run n 0) (sym e) ∙ sym (get_or-drop (at + j) run (from - at) 0)
-            ∙ ap (λ (l : List ℕ). get_or l (from - at) 0) g.later ∙ get_or-drop (at + j) run₀ (from - at) 0
-            ∙ ap (λ (n : ℕ). get_or run₀ n 0) e
-
-        past : to ≤ at → get_or run (from + j) 0 ≡ get_or run₀ (from + j) 0
-        past l =
-            let low : at ≤ length run₀ = omega (arith, m.room) in
-            let k = extends_kept g.extends low in
-            sym (get_or-take at run (from + j) 0 (omega arith)) ∙ ap (λ (l : List ℕ). get_or l (from + j) 0) k.is
-            ∙ get_or-take at run₀ (from + j) 0 (omega arith)
-
-    pub moving_more : Moving run₀ (set run (at + j) (get_or run (from + j) 0)) from at (j + 1)
-    moving_more =
-        record {
-          extends = bytes_next run₀ from at j g.extends (omega (arith, m.inside))
-              (omega (arith, m.room, moving_size)) moving_next;
-          later = drop-set-lt (at + (j + 1)) run (at + j) (get_or run (from + j) 0) (omega arith) ∙ sym (tail run)
-              ∙ ap (drop 1) g.later ∙ tail run₀;
-        }
-      where
-        tail : (l : List ℕ) → drop 1 (drop (at + j) l) ≡ drop (at + (j + 1)) l
-        tail l =
-            let e : at + j + 1 ≡ at + (j + 1) = omega arith in
-            drop-drop 1 (at + j) l ∙ ap (λ (n : ℕ). drop n l) e
-
-pub moving_end : {run₀ run : List ℕ} {from to at j : ℕ} → Movable run₀ from to at → Moving run₀ run from at j
-    → j ≡ to - from → Extends run₀ run at (part run₀ from to) (at + (to - from))
-moving_end {run₀} {run} {from} {to} {at} {j} m g e =
-    let k : from + j ≡ to = omega (arith, m.order) in
-    subst (λ (n : ℕ). Extends run₀ run at (part run₀ from to) (at + n)) e
-    (subst (λ (n : ℕ). Extends run₀ run at (part run₀ from n) (at + j)) k g.extends)
+pub moved_extends : {run : List ℕ} {from to at : ℕ} → Movable run from to at
+    → Extends run (copy_within run from to at) at (part run from to) (at + (to - from))
+moved_extends {run} {from} {to} {at} m =
+    let left : to - from ≤ length (drop from run) = omega (arith, m.order, m.inside, length-drop from run) in
+    record {
+      size = length-paste run at (drop from run) (to - from) m.room left;
+      place = let l = part_length run from to m.order m.inside in omega arith;
+      is = take-paste run at (drop from run) (to - from) (omega (arith, m.room)) left;
+    }
 
 -- ---- parts in place
 
@@ -211,30 +169,16 @@ module _ {run₀ m : List ℕ} {last first : ℕ} (w : Spanned run₀ m last 0) 
                 ∙ append_assoc (in_turn run₀ m first) g.rest (piece run₀ m (n + 1));
           }
 
-    pub copying_end : n ≡ last → Copies run₀ run m first last p
-    copying_end e =
-        record {
-          size = copying_size;
-          copied = λ z. record {
-            rest = g.rest;
-            extends = g.extends;
-            joins = ap (in_turn run₀ m) (sym e) ∙ g.joins;
-          };
-        }
-
-    pub copying_none : Copies run₀ run m first last 0
-    copying_none = record { size = copying_size; copied = λ z. absurd (z refl) }
+    pub copying_end : n ≡ last → Copied run₀ run m first last p
+    copying_end e = record { rest = g.rest; extends = g.extends; joins = ap (in_turn run₀ m) (sym e) ∙ g.joins }
 
 -- ---- parts settled
 
 module _ {run m : List ℕ} {last at : ℕ} {f : Lined} (w : Spanned run m last at) (l : InPlace run m last at f) where
-  pub settled_already : last ≤ f.count → Settles run run m last at f.past
+  pub settled_already : last ≤ f.count → Extends run run at (in_turn run m last) f.past
   settled_already h =
       let e : f.count ≡ last = omega (arith, l.few) in
-      record {
-        size = refl;
-        settled = λ z. subst (λ (n : ℕ). Extends run run at (in_turn run m n) f.past) e l.lie;
-      }
+      subst (λ (n : ℕ). Extends run run at (in_turn run m n) f.past) e l.lie
 
   module _ {run₁ : List ℕ} {q : ℕ} (c : Copied run run₁ m f.count last q) where
     pub settled_movable : Movable run₁ (behind m) q f.past
@@ -249,15 +193,9 @@ module _ {run m : List ℕ} {last at : ℕ} {f : Lined} (w : Spanned run m last 
         }
 
     pub settled_put : {run₂ : List ℕ} {r : ℕ} → Extends run₁ run₂ f.past (part run₁ (behind m) q) r
-        → Settles run run₂ m last at r
+        → Extends run run₂ at (in_turn run m last) r
     settled_put {run₂} {r} x =
         let k = kept_less f.past l.high (extends_kept c.extends w.high) in
         let e = extends_part w.high c.extends in
         let y = extends_after k (subst (λ (xs : List ℕ). Extends run₁ run₂ f.past xs r) e x) in
-        record {
-          size = x.size ∙ c.extends.size;
-          settled = λ z. subst (λ (xs : List ℕ). Extends run run₂ at xs r) (sym c.joins) (extends_then l.lie y);
-        }
-
-pub settled_none : {run run₁ m : List ℕ} {last at : ℕ} → length run₁ ≡ length run → Settles run run₁ m last at 0
-settled_none e = record { size = e; settled = λ z. absurd (z refl) }
+        subst (λ (xs : List ℕ). Extends run run₂ at xs r) (sym c.joins) (extends_then l.lie y)

@@ -6,7 +6,7 @@ use Prim.Native.Nat.{ℕ, zero, suc, ◌+◌, ◌≤◌, ◌<◌}
 use native.Mathlib.Omega.{arith}
 use lib.ListN.{length, get_or, set, take, length-set}
 use lib.Seq.{get_or-set_same, get_or-set_other, take-set-le}
-use Rattle.text.specs.Json.{object, Members, no_members, named, depth, a_value, Reads}
+use Rattle.text.specs.Json.{object, Members, no_members, named, depth}
 use Rattle.syntax.specs.Forms.{Reading, read, wrong, either, both}
 use Rattle.syntax.specs.Members.{Slot, none, many, one, one_or_more, optional, required, is_word, slot, known, is_among}
 use Rattle.syntax.specs.PolicyLayout.{sid_of, action_of, resource_of, condition_of, effect_of, statement_of, statement_in}
@@ -17,12 +17,12 @@ use Rattle.parts.proofs.Laws.Slots.{differs, distinct, both_true}
 use Rattle.parts.specs.Holding.{entry_of}
 use Rattle.parts.specs.declared.entries.Entry.TheVariants as E
 use Rattle.parts.specs.declared.holding.Ended.{Ended}
-use Rattle.parts.specs.declared.holding.Ended.TheVariants as N
-use Rattle.parts.specs.declared.words.Typed.{Typed}
+use Rattle.objects.specs.declared.members.Word.{Word}
+use Rattle.std.specs.Prelude.{Some, None}
 use Rattle.straight.specs.Marks.{Opened}
-use Rattle.straight.specs.Taking.{Taken, Takes}
+use Rattle.straight.specs.Taking.{Taken}
 use Rattle.straight.proofs.Laws.Reads.{object_some}
-use Rattle.objects.specs.Telling.{TellsTo, effect_named}
+use Rattle.objects.specs.Telling.{Told, effect_named}
 use Rattle.straight.proofs.Laws.AsTexts.{texts_laid}
 use Rattle.straight.proofs.Laws.Taking.{retaken}
 use Rattle.objects.specs.Gathering.{Parts, laid_as, told_as}
@@ -35,16 +35,16 @@ use Rattle.parts.specs.Holding.{Extends, Laid, Kept}
 use Rattle.parts.proofs.Laws.Extends.{extends_none, extends_front, extends_after}
 use Rattle.parts.proofs.Laws.Formed.{then_read}
 use Rattle.objects.specs.Spans.{from_of, to_of, behind, piece, in_turn, Span, Spanned}
-use Rattle.objects.specs.Gathering.{told, SlotFound, Gathered, Gathers}
+use Rattle.objects.specs.Gathering.{told, SlotFound, Proper, Gathered}
 use Rattle.objects.specs.Filling.{Ready, Filled}
 use Rattle.objects.specs.Statements.{statement_how, Slots, statement_from, Sorted, Begun, labelled, bare}
 use Rattle.objects.specs.Statements.{WithSid, there}
-use Rattle.objects.specs.Statements.{lacking, neither}
+use Rattle.objects.specs.Statements.{lacking}
 use Rattle.objects.proofs.Laws.Filling.{Whole, filled_whole, filled_other, filled_ready}
 use Rattle.objects.proofs.Laws.Filling.{required_ready, ready_span}
 use Rattle.objects.proofs.Laws.Filling.{ready_piece, optional_ready}
 use Rattle.objects.proofs.Laws.Settling.{kept_less, extends_here}
-use Rattle.objects.proofs.Laws.Gathering.{Proper, slot_none, extends_still, kept_then}
+use Rattle.objects.proofs.Laws.Gathering.{slot_none, extends_still, kept_then}
 use Rattle.objects.proofs.Laws.Filling.{nothing_held, takes_part, tells_part}
 
 -- ---- words
@@ -79,37 +79,31 @@ turned k o h = record { from = o; to = h }
 
 -- ---- one member
 
-module _ (s run run' : List ℕ) (v at : ℕ) where
-  pub sid_part : (r : Ended) → at ≤ length run → Takes held_text sid_of 0 s run run' v at r
-      → Parts statements s run run' v at 1 (laid_as r at)
-  sid_part r low t =
-      takes_part held_text sid_of (λ x. omega arith) statements 1 refl s run run' v at r (omega arith) low t
+module _ (s run run' : List ℕ) (v at : ℕ) (r : Ended) (low : at ≤ length run) where
+  pub sid_part : Taken held_text sid_of 0 s run run' v at r.past r.end
+      → Parts statements s run run' v at 1 (Some (laid_as r at))
+  sid_part t = takes_part held_text sid_of (λ x. omega arith) statements 1 refl s run run' v at r (omega arith) low t
 
-  pub action_part : (r : Ended) → at ≤ length run
-      → Takes (held_list held_value) (one_or_more (entry_of E.Action)) 1 s run run' v at r
-      → Parts statements s run run' v at 2 (laid_as r at)
-  action_part (N.Past p e) low t =
-      takes_part (held_list held_text) (one_or_more action_of) (λ x. omega arith) statements 2 refl s run run' v at
-      (N.Past p e)
+  pub action_part : Taken (held_list held_value) (one_or_more (entry_of E.Action)) 1 s run run' v at r.past r.end
+      → Parts statements s run run' v at 2 (Some (laid_as r at))
+  action_part t =
+      takes_part (held_list held_text) (one_or_more action_of) (λ x. omega arith) statements 2 refl s run run' v at r
       (omega arith) low (retaken t (texts_laid action_of t.tree t.laid))
-  action_part N.Wrong low t = t
 
-  pub resource_part : (r : Ended) → at ≤ length run
-      → Takes (held_list held_value) (one_or_more (entry_of E.Resource)) 1 s run run' v at r
-      → Parts statements s run run' v at 3 (laid_as r at)
-  resource_part (N.Past p e) low t =
-      takes_part (held_list held_text) (one_or_more resource_of) (λ x. omega arith) statements 3 refl s run run' v at
-      (N.Past p e) (omega arith) low (retaken t (texts_laid resource_of t.tree t.laid))
-  resource_part N.Wrong low t = t
+  pub resource_part : Taken (held_list held_value) (one_or_more (entry_of E.Resource)) 1 s run run' v at r.past r.end
+      → Parts statements s run run' v at 3 (Some (laid_as r at))
+  resource_part t =
+      takes_part (held_list held_text) (one_or_more resource_of) (λ x. omega arith) statements 3 refl s run run' v at r
+      (omega arith) low (retaken t (texts_laid resource_of t.tree t.laid))
 
-  pub condition_part : (r : Ended) → at ≤ length run
-      → Takes (held_list held_row) condition_of 3 s run run' v at r → Parts statements s run run' v at 4 (laid_as r at)
-  condition_part r low t =
+  pub condition_part : Taken (held_list held_row) condition_of 3 s run run' v at r.past r.end
+      → Parts statements s run run' v at 4 (Some (laid_as r at))
+  condition_part t =
       takes_part (held_list held_row) condition_of (λ x. omega arith) statements 4 refl s run run' v at r
       (omega arith) low t
 
-pub effect_part : (s run : List ℕ) (v at : ℕ) (r : Typed) → at ≤ length run → TellsTo effect_named s v r
-    → Parts statements s run run v at 5 (told_as r at)
+pub effect_part : (s run : List ℕ) (v at : ℕ) (r : Word) → at ≤ length run → Told effect_named s v r.number r.end
+    → Parts statements s run run v at 5 (Some (told_as r at))
 effect_part s run v at r low t = tells_part effect_named statements 5 refl s run v at r low t
 
 -- ---- the effect
@@ -120,18 +114,18 @@ record Effective (x : Reading Effect) (k : ℕ) : Type 0 where
   is : k ≡ effect_number effect
 
 -- the effect that a number tells
-effective : (a d : Bool) {k : ℕ} → k ≡ pick a 1 (pick d 2 0) → (k ≡ 0 → ⊥)
+effective : (a d : Bool) {k : ℕ} → Some k ≡ pick a (Some 1) (pick d (Some 2) None)
     → Effective (pick a (read Allow) (pick d (read Deny) wrong)) k
-effective true d i n = record { effect = Allow; said = refl; is = i }
-effective false true i n = record { effect = Deny; said = refl; is = i }
-effective false false i n = absurd (n i)
+effective true d i = record { effect = Allow; said = refl; is = cc }
+effective false true i = record { effect = Deny; said = refl; is = cc }
+effective false false i = absurd (cc)
 
 effect_said : (run : List ℕ) (p : ℕ) (x : Slot) (from to : ℕ) → SlotFound (told effect_named) run p x from to
     → (to ≡ 0 → ⊥) → Effective (required effect_of x) from
 unfolding effect_of
 effect_said run p none from to y n = absurd (n y)
 effect_said run p many from to y n = absurd y
-effect_said run p (one t) from to y n = effective (is_word allow_word t) (is_word deny_word t) y.is y.some
+effect_said run p (one t) from to y n = effective (is_word allow_word t) (is_word deny_word t) y.is
 
 effect_few : (e : Effect) → effect_number e ≤ 2
 effect_few Allow = omega arith
@@ -158,28 +152,28 @@ module _ {run m : List ℕ} {at : ℕ} {x : Slots} (w : Sorted run m at x) (n₁
   pub effect_small : from_of m 5 ≤ 2
   effect_small = omega (arith, found_effect.is, effect_few found_effect.effect)
 
-  module _ {run₁ m₁ : List ℕ} (f : Filled (0 ∷ []) run run₁ m m₁ 4) (n : get_or m₁ 0 0 ≡ 0 → ⊥) where
+  module _ {run₁ m₁ : List ℕ} (f : Filled (0 ∷ []) run run₁ m m₁ 4) where
     whole : Whole run run₁ m m₁
-    whole = filled_whole w.size (omega arith) (omega arith) w.high n f
+    whole = filled_whole w.size (omega arith) (omega arith) w.high f
 
     sid : Ready held_text (optional [] sid_of x.sid) run₁ m₁ 1
     sid =
-        filled_other w.size (omega arith) (omega arith) w.high n f (omega arith) (λ e. absurd (omega arith))
+        filled_other w.size (omega arith) (omega arith) w.high f (omega arith) (λ e. absurd (omega arith))
         (w.sid n₁)
 
     actions : Ready (held_list held_text) (required (one_or_more action_of) x.action) run₁ m₁ 2
     actions =
-        filled_other w.size (omega arith) (omega arith) w.high n f (omega arith) (λ e. absurd (omega arith))
+        filled_other w.size (omega arith) (omega arith) w.high f (omega arith) (λ e. absurd (omega arith))
         (required_ready (held_list held_text) (one_or_more action_of) run m 2 x.action w.action n₂)
 
     resources : Ready (held_list held_text) (required (one_or_more resource_of) x.resource) run₁ m₁ 3
     resources =
-        filled_other w.size (omega arith) (omega arith) w.high n f (omega arith) (λ e. absurd (omega arith))
+        filled_other w.size (omega arith) (omega arith) w.high f (omega arith) (λ e. absurd (omega arith))
         (required_ready (held_list held_text) (one_or_more resource_of) run m 3 x.resource w.resource n₃)
 
     rows : Ready (held_list held_row) (optional [] condition_of x.condition) run₁ m₁ 4
     rows =
-        filled_ready w.size (omega arith) (omega arith) w.high n (held_list held_row) condition_of [] x.condition
+        filled_ready w.size (omega arith) (omega arith) w.high (held_list held_row) condition_of [] x.condition
         (nothing_held held_row) w.condition f
 
     spans : (k : ℕ) → 0 < k → k ≤ 4 → Span m₁ k
@@ -302,27 +296,19 @@ module _ {run run₁ : List ℕ} {at base : ℕ} (low : at + 2 ≤ length run) w
       (extends_here (omega arith) x))
 
 module _ {s run run₁ run₂ m m₁ : List ℕ} {i at base : ℕ} (low : at + 2 ≤ length run) (b : Begun run run₁ at base)
-    (g : Gathers statements s run₁ run₂ i base m) (n : get_or m₁ 0 0 ≡ 0 → ⊥) where
+    (gone : Gathered statements s run₁ run₂ i base m) where
   -- what the second walk over the spans left
   place : (w : WithSid m at base m₁) (j : ℕ) → (j ≡ 2 → ⊥) → (j ≡ 3 → ⊥) → get_or m₁ j 0 ≡ get_or m j 0
   place (there a e) j p q = ap (λ (z : List ℕ). get_or z j 0) e
   place (lacking a c e) j p q =
       ap (λ (z : List ℕ). get_or z j 0) e ∙ get_or-set_other (set m 2 (at + 1)) 3 j (at + 2) 0 q
       ∙ get_or-set_other m 2 j (at + 1) 0 p
-  place (neither a e) j p q = absurd (n a)
 
   long : WithSid m at base m₁ → length m₁ ≡ 12
-  long (there a e) = ap length e ∙ g.spans
-  long (lacking a c e) = ap length e ∙ length-set (set m 2 (at + 1)) 3 (at + 2) ∙ length-set m 2 (at + 1) ∙ g.spans
-  long (neither a e) = absurd (n a)
+  long (there a e) = ap length e ∙ gone.spans
+  long (lacking a c e) = ap length e ∙ length-set (set m 2 (at + 1)) 3 (at + 2) ∙ length-set m 2 (at + 1) ∙ gone.spans
 
   module _ (w : WithSid m at base m₁) where
-    flag : get_or m₁ 0 0 ≡ get_or m 0 0
-    flag = place w 0 (λ e. absurd (omega arith)) (λ e. absurd (omega arith))
-
-    pub gone : Gathered statements s run₁ run₂ i base m
-    gone = g.gathered (λ e. n (flag ∙ e))
-
     past : behind m₁ ≡ behind m
     past = place w 1 (λ e. absurd (omega arith)) (λ e. absurd (omega arith))
 
@@ -338,10 +324,10 @@ module _ {s run run₁ run₂ m m₁ : List ℕ} {i at base : ℕ} (low : at + 2
         let from : from_of m₁ 1 ≡ at + 1 =
         ap (λ (l : List ℕ). get_or l 2 0) e
         ∙ get_or-set_other (set m 2 (at + 1)) 3 2 (at + 2) 0 (λ q. absurd (omega arith))
-        ∙ get_or-set_same m 2 (at + 1) 0 (omega (arith, g.spans)) in
+        ∙ get_or-set_same m 2 (at + 1) 0 (omega (arith, gone.spans)) in
         let to : to_of m₁ 1 ≡ at + 2 =
         ap (λ (l : List ℕ). get_or l 3 0) e
-        ∙ get_or-set_same (set m 2 (at + 1)) 3 (at + 2) 0 (omega (arith, length-set m 2 (at + 1), g.spans)) in
+        ∙ get_or-set_same (set m 2 (at + 1)) 3 (at + 2) 0 (omega (arith, length-set m 2 (at + 1), gone.spans)) in
         let y = extends_still (omega (arith, c)) gone.kept (no_sid low b c) in
         record {
           thing = [];
@@ -350,7 +336,6 @@ module _ {s run run₁ run₂ m m₁ : List ℕ} {i at base : ℕ} (low : at + 2
               (subst (λ (p : ℕ). Extends run₂ run₂ (at + 1) (0 ∷ []) p) (sym to) y);
           inside = omega (arith, to, past, gone.low, c);
         }
-    sid_there (neither a e) z = absurd (n a)
 
     slot_at : (k : ℕ) → 1 < k → Turn statements.words k
         → SlotFound (statement_how k) run₂ (behind m₁) (slot (word_at statements.words k) gone.all) (from_of m₁ k)
@@ -379,13 +364,13 @@ module _ {s run run₁ run₂ m m₁ : List ℕ} {i at base : ℕ} (low : at + 2
 
     pub statement_taken : {run₃ : List ℕ} {v r : ℕ} → Opened s 123 v i
         → Laid held_statement run₂ run₃ at (statement_from (slots_in gone.all)) r
-        → Taken held_statement statement_of 4 s run run₃ v at r (get_or m₁ 0 0)
+        → Taken held_statement statement_of 4 s run run₃ v at r (get_or m 0 0)
     unfolding depth
     statement_taken {v = v} o l =
         let k = kept_then (omega (arith, begun_high low b)) (begun_kept low b) gone.kept in
         record {
           tree = object gone.all;
-          reads = subst (Reads s (a_value (object gone.all)) v) (sym flag) (object_some o gone.reads);
+          reads = object_some o gone.reads;
           shallow = omega (arith, gone.shallow);
           laid = record {
             thing = l.thing;

@@ -9,40 +9,35 @@ use Rattle.text.specs.Json.{Json, string, depth, levels, Space, Quoted, a_string
 use Rattle.syntax.specs.Forms.{Reading}
 use Rattle.syntax.specs.Words.{string_type_word, numeric_type_word, allow_word, deny_word}
 use Rattle.syntax.specs.Members.{is_word}
-use Rattle.parts.specs.Requests.{type_named}
-use Rattle.parts.specs.declared.words.Typed.{Typed}
-use Rattle.parts.specs.declared.words.Typed.TheVariants as T
+use Rattle.std.specs.Prelude.{Option, Some, None, Result, Ok}
+use Rattle.std.specs.Option.{ok_or}
 use Rattle.straight.specs.Taking.{Taken}
-use Rattle.objects.specs.Telling.{Told, TellsTo, effect_named, TakenText}
+use Rattle.objects.specs.Telling.{Told, effect_named, type_told, TakenText}
 
 -- a word that stands for itself, to which g gives a number
-pub quoted_told : {g : Json → ℕ} {s : List ℕ} {v e : ℕ} (w : List ℕ) (k : ℕ) → Quoted s w v e → k ≡ g (string w)
-    → (k ≡ 0 → ⊥) → Told g s v k e
-unfolding depth
-quoted_told w k q i n =
-    record { tree = string w; reads = a_string q; shallow = omega arith; is = i; some = n }
-
-pub tells_is : (g : Json → ℕ) (s : List ℕ) (v : ℕ) {r : Typed} {k e : ℕ} → TellsTo g s v r → r ≡ T.Is k e
+pub quoted_told : {g : Json → Option ℕ} {s : List ℕ} {v e : ℕ} (w : List ℕ) (k : ℕ) → Quoted s w v e → Some k ≡ g (string w)
     → Told g s v k e
-tells_is g s v t k = subst (TellsTo g s v) k t
+unfolding depth
+quoted_told w k q i =
+    record { tree = string w; reads = a_string q; shallow = omega arith; is = i }
 
 -- ---- types
 
-pub string_type : 1 ≡ type_named (string string_type_word)
+pub string_type : Some 1 ≡ type_told (string string_type_word)
 unfolding is_word same_text text_of meaning units_behind read_of sequence_of equal
 string_type = refl
 
-pub numeric_type : 2 ≡ type_named (string numeric_type_word)
+pub numeric_type : Some 2 ≡ type_told (string numeric_type_word)
 unfolding is_word same_text text_of meaning units_behind read_of sequence_of equal
 numeric_type = refl
 
 -- ---- effects
 
-pub allow_named : 1 ≡ effect_named (string allow_word)
+pub allow_named : Some 1 ≡ effect_named (string allow_word)
 unfolding is_word same_text text_of meaning units_behind read_of sequence_of equal
 allow_named = refl
 
-pub deny_named : 2 ≡ effect_named (string deny_word)
+pub deny_named : Some 2 ≡ effect_named (string deny_word)
 unfolding is_word same_text text_of meaning units_behind read_of sequence_of equal
 deny_named = refl
 
@@ -68,3 +63,9 @@ text_taken {s = s} {v = v} {e = e} few before t after all =
       };
       laid = t.laid;
     }
+
+-- ---- answers made a result
+
+pub ok_or_some : {T E : Type 0} (o : Option T) (e : E) {r : Result T E} {x : T} → r ≡ ok_or o e → r ≡ Ok x → o ≡ Some x
+ok_or_some (Some y) e p q = cc
+ok_or_some None e p q = cc

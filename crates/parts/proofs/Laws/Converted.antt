@@ -13,8 +13,7 @@ use Rattle.chars.proofs.Laws.Putting.{lay_length}
 use Rattle.syntax.specs.Forms.{Reading, wrong, read, both, ahead, symbol, symbols_behind, symbols_of}
 use Rattle.syntax.specs.Members.{then}
 use Rattle.syntax.specs.Told.{converted}
-use Rattle.syntax.specs.declared.symbols.Converted.{Converted}
-use Rattle.syntax.specs.declared.symbols.Converted.TheVariants as C
+use Rattle.std.specs.Prelude.{Option, Some, None}
 use Rattle.held.specs.Held.{held_text}
 use Rattle.parts.specs.Holding.{Extends, Laid, Left}
 use Rattle.parts.proofs.Laws.Formed.{part_is, shortened, then_read}
@@ -57,35 +56,35 @@ behind_few zero w (c ∷ cs) =
 
 -- ---- what the answer tells
 
-record Some (x : Reading (List ℕ)) (mid out : List ℕ) (n : ℕ) : Type 0 where
+record Told (x : Reading (List ℕ)) (mid out : List ℕ) (n : ℕ) : Type 0 where
   pub symbols : List ℕ
   pub said : x ≡ read symbols
   pub count : n ≡ length symbols
   pub laid : out ≡ lay symbols mid
 
-some_told : (x : Reading (List ℕ)) (mid out : List ℕ) (r : Converted) (n : ℕ) → (r, out) ≡ converted x mid
-    → r ≡ C.Count n → Some x mid out n
+some_told : (x : Reading (List ℕ)) (mid out : List ℕ) (r : Option ℕ) (n : ℕ) → (r, out) ≡ converted x mid
+    → r ≡ Some n → Told x mid out n
 some_told wrong mid out r n e k =
-    absurd (let z : C.Count n ≡ C.Wrong = sym k ∙ ap (λ y. y.0) e in let y : ◌≡◌ {A = ℕ} 0 1 = cc in omega arith)
+    absurd (let z : Some n ≡ None = sym k ∙ ap (λ y. y.0) e in let y : ◌≡◌ {A = ℕ} 0 1 = cc in omega arith)
 some_told (read ys) mid out r n e k =
-    let z : C.Count n ≡ C.Count (length ys) = sym k ∙ ap (λ y. y.0) e in
+    let z : Some n ≡ Some (length ys) = sym k ∙ ap (λ y. y.0) e in
     record { symbols = ys; said = refl; count = cc; laid = ap (λ y. y.1) e }
 
-record None (x : Reading (List ℕ)) (mid out : List ℕ) : Type 0 where
+record Untold (x : Reading (List ℕ)) (mid out : List ℕ) : Type 0 where
   pub said : x ≡ wrong
   pub kept : out ≡ mid
 
-none_told : (x : Reading (List ℕ)) (mid out : List ℕ) (r : Converted) → (r, out) ≡ converted x mid → r ≡ C.Wrong
-    → None x mid out
+none_told : (x : Reading (List ℕ)) (mid out : List ℕ) (r : Option ℕ) → (r, out) ≡ converted x mid → r ≡ None
+    → Untold x mid out
 none_told wrong mid out r e k = record { said = refl; kept = ap (λ y. y.1) e }
 none_told (read ys) mid out r e k =
-    absurd (let z : C.Wrong ≡ C.Count (length ys) = sym k ∙ ap (λ y. y.0) e in
+    absurd (let z : None ≡ Some (length ys) = sym k ∙ ap (λ y. y.0) e in
     let y : ◌≡◌ {A = ℕ} 0 1 = cc in omega arith)
 
 -- ---- the run
 
 module _ {run run' : List ℕ} {at p : ℕ} {x : Reading (List ℕ)} (low : at ≤ length run)
-    (h : Laid held_text run run' at x p) (w : Bool) (out : List ℕ) (r : Converted)
+    (h : Laid held_text run run' at x p) (w : Bool) (out : List ℕ) (r : Option ℕ)
     (told : (r, out) ≡ converted (symbols_of w (mid_of (at + 1) (p - (at + 1)) run'))
     (mid_of (at + 1) (p - (at + 1)) run')) where
   abbrev mid : List ℕ
@@ -100,27 +99,27 @@ module _ {run run' : List ℕ} {at p : ℕ} {x : Reading (List ℕ)} (low : at �
       same : length out ≡ length mid → length (put_mid (at + 1) (p - (at + 1)) run' out) ≡ length run
       same e = same_len_mid (at + 1) (p - (at + 1)) run' out e ∙ h.extends.size
 
-      by : (r : Converted) → (r, out) ≡ converted (symbols_of w mid) mid
+      by : (r : Option ℕ) → (r, out) ≡ converted (symbols_of w mid) mid
           → length (put_mid (at + 1) (p - (at + 1)) run' out) ≡ length run
-      by (C.Count n) e =
-          let s = some_told (symbols_of w mid) mid out (C.Count n) n e refl in
+      by (Some n) e =
+          let s = some_told (symbols_of w mid) mid out (Some n) n e refl in
           same (ap length s.laid ∙ lay_length s.symbols mid)
-      by C.Wrong e = same (ap length (none_told (symbols_of w mid) mid out C.Wrong e refl).kept)
+      by None e = same (ap length (none_told (symbols_of w mid) mid out None e refl).kept)
 
-  pub symbols_none : r ≡ C.Wrong → Left run (put_mid (at + 1) (p - (at + 1)) run' out) (then x (symbols_of w))
+  pub symbols_none : r ≡ None → Left run (put_mid (at + 1) (p - (at + 1)) run' out) (then x (symbols_of w))
   symbols_none e =
       record { size = symbols_size; said = read_of (none_told (symbols_of w mid) mid out r told e).said }
 
-  abbrev found : (n : ℕ) → r ≡ C.Count n → Some (symbols_of w mid) mid out n
+  abbrev found : (n : ℕ) → r ≡ Some n → Told (symbols_of w mid) mid out n
   found n e = some_told (symbols_of w mid) mid out r n told e
 
-  pub symbols_few : (n : ℕ) → r ≡ C.Count n → n ≤ length h.thing
+  pub symbols_few : (n : ℕ) → r ≡ Some n → n ≤ length h.thing
   symbols_few n e =
       let s = found n e in
       omega (arith, s.count, (behind_few 0 w mid).few s.symbols s.said, ap length (part_is low h))
 
   pub symbols_some :
-      (n : ℕ) → r ≡ C.Count n
+      (n : ℕ) → r ≡ Some n
       → Laid held_text run (set (put_mid (at + 1) (p - (at + 1)) run' out) at n) at (then x (symbols_of w)) (at + 1 + n)
   symbols_some n e =
       let s = found n e in

@@ -12,46 +12,59 @@ use Rattle.syntax.specs.Forms.{Reading, wrong, read, symbols_of, is_resource}
 use Rattle.syntax.specs.Members.{then, only}
 use Rattle.held.specs.Held.{held_text}
 use Rattle.parts.specs.Holding.{Extends, Laid, Left, Holds, HoldsTo, Gathered, GathersTo}
-use Rattle.parts.specs.declared.holding.Held.{Held}
-use Rattle.parts.specs.declared.holding.Held.TheVariants.{Past, Wrong}
+use Rattle.std.specs.Prelude.{Option, Some, None}
 use Rattle.parts.specs.declared.holding.Ended.{Ended}
-use Rattle.parts.specs.declared.holding.Ended.TheVariants as N
 use Rattle.parts.specs.declared.holding.Listed.{Listed}
-use Rattle.parts.specs.declared.holding.Listed.TheVariants as L
 use Rattle.parts.proofs.Laws.Holding.{laid_extends}
 use Rattle.parts.proofs.Laws.Extends.{extends_all, extends_within, extends_front, extends_after}
 
 -- ---- the answer
 
 pub holds_past :
-    {A : Type 0} (h : A → List ℕ) (run run' : List ℕ) (at : ℕ) (x : Reading A) {r : Held} {p : ℕ}
-    → Holds h run run' at x r → r ≡ Past p → Laid h run run' at x p
+    {A : Type 0} (h : A → List ℕ) (run run' : List ℕ) (at : ℕ) (x : Reading A) {r : Option ℕ} {p : ℕ}
+    → Holds h run run' at x r → r ≡ Some p → Laid h run run' at x p
 holds_past h run run' at x f e = subst (Holds h run run' at x) e f
 
 pub holds_wrong :
-    {A : Type 0} (h : A → List ℕ) (run run' : List ℕ) (at : ℕ) (x : Reading A) {r : Held}
-    → Holds h run run' at x r → r ≡ Wrong → Left run run' x
+    {A : Type 0} (h : A → List ℕ) (run run' : List ℕ) (at : ℕ) (x : Reading A) {r : Option ℕ}
+    → Holds h run run' at x r → r ≡ None → Left run run' x
 holds_wrong h run run' at x f e = subst (Holds h run run' at x) e f
 
 pub ends_past :
-    {A : Type 0} (h : A → List ℕ) (run run' : List ℕ) (at : ℕ) (x : Reading A) (e : ℕ) {r : Ended} {p q : ℕ}
-    → HoldsTo h run run' at x e r → r ≡ N.Past p q → (Laid h run run' at x p) × (q ≡ e)
+    {A : Type 0} (h : A → List ℕ) (run run' : List ℕ) (at : ℕ) (x : Reading A) (e : ℕ) {r : Option Ended} {y : Ended}
+    → HoldsTo h run run' at x e r → r ≡ Some y → (Laid h run run' at x y.past) × (y.end ≡ e)
 ends_past h run run' at x e f z = subst (HoldsTo h run run' at x e) z f
 
 pub ends_wrong :
-    {A : Type 0} (h : A → List ℕ) (run run' : List ℕ) (at : ℕ) (x : Reading A) (e : ℕ) {r : Ended}
-    → HoldsTo h run run' at x e r → r ≡ N.Wrong → Left run run' x
+    {A : Type 0} (h : A → List ℕ) (run run' : List ℕ) (at : ℕ) (x : Reading A) (e : ℕ) {r : Option Ended}
+    → HoldsTo h run run' at x e r → r ≡ None → Left run run' x
 ends_wrong h run run' at x e f z = subst (HoldsTo h run run' at x e) z f
 
 pub lists_several :
-    {A : Type 0} (h : A → List ℕ) (run run' : List ℕ) (at : ℕ) (x : Reading (List A)) (e : ℕ) {r : Listed} {p q n : ℕ}
-    → GathersTo h run run' at x e r → r ≡ L.Several p q n → (Gathered h run run' at x p n) × (q ≡ e)
+    {A : Type 0} (h : A → List ℕ) (run run' : List ℕ) (at : ℕ) (x : Reading (List A)) (e : ℕ) {r : Option Listed} {y : Listed}
+    → GathersTo h run run' at x e r → r ≡ Some y → (Gathered h run run' at x y.past y.count) × (y.end ≡ e)
 lists_several h run run' at x e f z = subst (GathersTo h run run' at x e) z f
 
 pub lists_wrong :
-    {A : Type 0} (h : A → List ℕ) (run run' : List ℕ) (at : ℕ) (x : Reading (List A)) (e : ℕ) {r : Listed}
-    → GathersTo h run run' at x e r → r ≡ L.Wrong → Left run run' x
+    {A : Type 0} (h : A → List ℕ) (run run' : List ℕ) (at : ℕ) (x : Reading (List A)) (e : ℕ) {r : Option Listed}
+    → GathersTo h run run' at x e r → r ≡ None → Left run run' x
 lists_wrong h run run' at x e f z = subst (GathersTo h run run' at x e) z f
+
+-- nothing was held
+pub none_holds :
+    {A : Type 0} (h : A → List ℕ) (run run' : List ℕ) (at : ℕ) (x : Reading A) {r : Option ℕ}
+    → r ≡ None → Left run run' x → Holds h run run' at x r
+none_holds h run run' at x e l = subst (Holds h run run' at x) (sym e) l
+
+pub none_ends :
+    {A : Type 0} (h : A → List ℕ) (run run' : List ℕ) (at : ℕ) (x : Reading A) (e : ℕ) {r : Option Ended}
+    → r ≡ None → Left run run' x → HoldsTo h run run' at x e r
+none_ends h run run' at x e z l = subst (HoldsTo h run run' at x e) (sym z) l
+
+pub none_lists :
+    {A : Type 0} (h : A → List ℕ) (run run' : List ℕ) (at : ℕ) (x : Reading (List A)) (e : ℕ) {r : Option Listed}
+    → r ≡ None → Left run run' x → GathersTo h run run' at x e r
+none_lists h run run' at x e z l = subst (GathersTo h run run' at x e) (sym z) l
 
 -- ---- the run
 

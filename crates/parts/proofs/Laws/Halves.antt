@@ -14,8 +14,7 @@ use Rattle.syntax.specs.Members.{then, characters, characters_of}
 use Rattle.syntax.specs.PolicyLayout.{number_of_json}
 use Rattle.parts.specs.Room.{cost}
 use Rattle.syntax.specs.Told.{told_number}
-use Rattle.syntax.specs.declared.numbers.Number.{Number}
-use Rattle.syntax.specs.declared.numbers.Number.TheVariants as N
+use Rattle.std.specs.Prelude.{Option, Some, None}
 use Rattle.parts.specs.Holding.{is_number}
 use Rattle.parts.proofs.Laws.Holding.{never}
 use Rattle.syntax.proofs.Laws.Numbers.{number_small}
@@ -85,8 +84,8 @@ json_room (object ms) e = absurd (not_read e)
 
 -- ---- the answer
 
-pub number_told : {r : Number} {x : Reading ℕ} {n : ℕ} → told_number r ≡ x → r ≡ N.Is n → x ≡ read n
+pub number_told : {r : Option ℕ} {x : Reading ℕ} {n : ℕ} → told_number r ≡ x → r ≡ Some n → x ≡ read n
 number_told f e = sym f ∙ ap told_number e
 
-pub wrong_told : {r : Number} {x : Reading ℕ} → told_number r ≡ x → r ≡ N.Wrong → x ≡ wrong
+pub wrong_told : {r : Option ℕ} {x : Reading ℕ} → told_number r ≡ x → r ≡ None → x ≡ wrong
 wrong_told f e = sym f ∙ ap told_number e

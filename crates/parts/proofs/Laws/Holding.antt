@@ -12,12 +12,12 @@ use borrow.Rule.Slice.PartMut.{mid_of, post_of, put_mid, mid_len, same_len_mid}
 use Rattle.chars.specs.Base.{pick, part}
 use Rattle.text.specs.Json.{Json, null, bool, number, string, list, object}
 use Rattle.text.specs.Contents.{kind_of, Stands, StandingText, Raw}
-use Rattle.text.specs.declared.walk.Kind.{Kind}
 use Rattle.text.specs.declared.walk.Span.{Span}
 use Rattle.chars.specs.Decoding.{text_of, decoded_of, Decodes}
 use Rattle.chars.specs.Putting.{lay}
-use Rattle.chars.specs.declared.strings.Decoded.{Decoded}
-use Rattle.chars.specs.declared.strings.Decoded.TheVariants.{Count, Lone, Short}
+use Rattle.std.specs.Prelude.{Result, Ok, Err}
+use Rattle.chars.specs.declared.strings.DecodeError.{DecodeError}
+use Rattle.chars.specs.declared.strings.DecodeError.TheVariants.{Lone, Short}
 use Rattle.chars.proofs.Laws.Putting.{lay_length}
 use Rattle.chars.proofs.Laws.Strings.Lengths.{chars_few}
 use Rattle.syntax.specs.Forms.{Reading, wrong, read}
@@ -25,8 +25,7 @@ use Rattle.syntax.specs.Members.{only, characters, characters_of}
 use Rattle.held.specs.Held.{held_text}
 use Rattle.parts.specs.Room.{Roomy, cost}
 use Rattle.parts.specs.Holding.{is_text, Extends, Laid, Left, Holds, HoldsTo}
-use Rattle.parts.specs.declared.holding.Held.{Held}
-use Rattle.parts.specs.declared.holding.Held.TheVariants as H
+use Rattle.std.specs.Prelude.{Option, Some, None}
 use Rattle.parts.specs.declared.holding.Ended.{Ended}
 use Rattle.parts.proofs.Laws.Extends.{extends_front}
 
@@ -59,38 +58,30 @@ is_string (object ms) e = never e
 
 -- ---- what the decoder told
 
-pub told_lone : (w : List ℕ) (n : ℕ) → decoded_of (text_of w) n ≡ Lone → characters w ≡ wrong
-unfolding decoded_of characters
-told_lone w n e = by (text_of w).sound (leb (length (text_of w).chars) n) e
-  where
-    by : (t u : Bool) → pick t (pick u (Count (length (text_of w).chars)) Short) Lone ≡ Lone
-        → only t (text_of w).chars ≡ wrong
-    by false u e = refl
-    by true true e = absurd (let y : ◌≡◌ {A = ℕ} 0 1 = cc in omega arith)
-    by true false e = absurd (let y : ◌≡◌ {A = ℕ} 0 1 = cc in omega arith)
-
 pub record Counted (w : List ℕ) (k : ℕ) : Type 0 where
   pub said : characters w ≡ read (text_of w).chars
   pub count : k ≡ length (text_of w).chars
 
-pub told_count : (w : List ℕ) (n k : ℕ) → decoded_of (text_of w) n ≡ Count k → Counted w k
+pub told_count : (w : List ℕ) (n k : ℕ) → decoded_of (text_of w) n ≡ Ok k → Counted w k
 unfolding decoded_of characters
 told_count w n k e = by (text_of w).sound refl (leb (length (text_of w).chars) n) e
   where
     by : (t : Bool) → (text_of w).sound ≡ t → (u : Bool)
-        → pick t (pick u (Count (length (text_of w).chars)) Short) Lone ≡ Count k → Counted w k
+        → pick t (pick u (Ok (length (text_of w).chars)) (Err Short)) (Err Lone) ≡ Ok k → Counted w k
     by false s u e = absurd (let y : ◌≡◌ {A = ℕ} 0 1 = cc in omega arith)
     by true s false e = absurd (let y : ◌≡◌ {A = ℕ} 0 1 = cc in omega arith)
     by true s true e = record { said = rw s; count = cc }
 
--- where there is room for as many characters as bytes, it is never short
-pub told_short : (w : List ℕ) (n : ℕ) → length w ≤ n → decoded_of (text_of w) n ≡ Short → ⊥
-unfolding decoded_of
-told_short w n h e = by (text_of w).sound (rw (le-leb (length (text_of w).chars) n (omega (arith, chars_few w))) at e)
+-- where there is room for as many characters as bytes, it is never short, and so a surrogate escape stands alone
+pub told_wrong : (w : List ℕ) (n : ℕ) (e : DecodeError) → length w ≤ n → decoded_of (text_of w) n ≡ Err e
+    → characters w ≡ wrong
+unfolding decoded_of characters
+told_wrong w n e h q =
+    by (text_of w).sound (rw (le-leb (length (text_of w).chars) n (omega (arith, chars_few w))) at q)
   where
-    by : (t : Bool) → pick t (Count (length (text_of w).chars)) Lone ≡ Short → ⊥
-    by true e = let y : ◌≡◌ {A = ℕ} 0 1 = cc in omega arith
-    by false e = let y : ◌≡◌ {A = ℕ} 0 1 = cc in omega arith
+    by : (t : Bool) → pick t (Ok (length (text_of w).chars)) (Err Lone) ≡ Err e → only t (text_of w).chars ≡ wrong
+    by true q = cc
+    by false q = refl
 
 -- ---- the run afterwards
 
@@ -120,13 +111,6 @@ laid_extends run cs a k low few =
     }
 
 -- ---- the string that stands there
-
--- the kind told and its test told, the value is a string
-pub stands_text :
-    {s : List ℕ} {v : ℕ} {k : Kind} {b : Bool}
-    → ((t : Json) (e : ℕ) → Stands s t v e → k ≡ kind_of t) → b ≡ is_text k → b ≡ true
-    → (t : Json) (e : ℕ) → Stands s t v e → is_text (kind_of t) ≡ true
-stands_text f g h t e p = ap is_text (sym (f t e p)) ∙ sym g ∙ h
 
 pub string_stands :
     {s : List ℕ} {v e : ℕ} (t : Json) → Stands s t v e → is_text (kind_of t) ≡ true → StandingText s v
@@ -161,7 +145,7 @@ module _ (run w after : List ℕ) (at : ℕ) (room : Roomy run at (1 + length w)
   enough : length w ≤ size
   enough = omega (arith, room.room)
 
-  module _ (d : Decoded) (p : Decodes w (mid_of (at + 1) size run) d after) where
+  module _ (d : Result ℕ DecodeError) (p : Decodes w (mid_of (at + 1) size run) d after) where
     told_of : d ≡ decoded_of (text_of w) size
     told_of = p.told ∙ ap (decoded_of (text_of w)) mid_length
 
@@ -169,19 +153,16 @@ module _ (run w after : List ℕ) (at : ℕ) (room : Roomy run at (1 + length w)
     held_size = same_len_mid (at + 1) size run after (ap length p.laid ∙ lay_length (text_of w).chars
         (mid_of (at + 1) size run))
 
-    pub held_lone : d ≡ Lone → characters w ≡ wrong
-    held_lone e = told_lone w size (sym told_of ∙ e)
+    pub held_wrong : (e : DecodeError) → d ≡ Err e → characters w ≡ wrong
+    held_wrong e q = told_wrong w size e enough (sym told_of ∙ q)
 
-    pub held_short : d ≡ Short → ⊥
-    held_short e = told_short w size enough (sym told_of ∙ e)
-
-    pub held_count : (n : ℕ) → d ≡ Count n → (Counted w n) × (n ≤ length w)
+    pub held_count : (n : ℕ) → d ≡ Ok n → (Counted w n) × (n ≤ length w)
     held_count n e =
         let c = told_count w size n (sym told_of ∙ e) in
         (c, omega (arith, c.count, chars_few w))
 
     pub held_text_lem :
-        (n : ℕ) → d ≡ Count n
+        (n : ℕ) → d ≡ Ok n
         → Laid held_text run (set (put_mid (at + 1) size run after) at n) at (characters w) (at + 1 + n)
     held_text_lem n e =
         let c = (held_count n e).0 in
@@ -214,24 +195,24 @@ text_room {s} {v} {e} {t} {run} {at} p h q f room =
 
 -- the same reading, said otherwise
 pub holds_alike :
-    {A : Type 0} (h : A → List ℕ) (run run' : List ℕ) (at : ℕ) (r : Held) (x y : Reading A)
+    {A : Type 0} (h : A → List ℕ) (run run' : List ℕ) (at : ℕ) (r : Option ℕ) (x y : Reading A)
     → x ≡ y → Holds h run run' at x r → Holds h run run' at y r
 holds_alike h run run' at r x y e f = subst (λ z. Holds h run run' at z r) e f
 
 pub ends_alike :
-    {A : Type 0} (h : A → List ℕ) (run run' : List ℕ) (at e : ℕ) (r : Ended) (x y : Reading A)
+    {A : Type 0} (h : A → List ℕ) (run run' : List ℕ) (at e : ℕ) (r : Option Ended) (x y : Reading A)
     → x ≡ y → HoldsTo h run run' at x e r → HoldsTo h run run' at y e r
 ends_alike h run run' at e r x y k f = subst (λ z. HoldsTo h run run' at z e r) k f
 
 -- an answer that is known, of what is read likewise
 pub laid_string :
-    {A : Type 0} (h : A → List ℕ) {run run' : List ℕ} {at p : ℕ} {r : Held} {x y : Reading A}
-    → Holds h run run' at x r → r ≡ H.Past p → x ≡ y → Laid h run run' at y p
+    {A : Type 0} (h : A → List ℕ) {run run' : List ℕ} {at p : ℕ} {r : Option ℕ} {x y : Reading A}
+    → Holds h run run' at x r → r ≡ Some p → x ≡ y → Laid h run run' at y p
 laid_string {A} h {run} {run'} {at} {p} {r} {x} {y} f e g =
-    subst (λ (z : Reading A). Holds h run run' at z (H.Past p)) g (subst (λ (q : Held). Holds h run run' at x q) e f)
+    subst (λ (z : Reading A). Holds h run run' at z (Some p)) g (subst (λ (q : Option ℕ). Holds h run run' at x q) e f)
 
 pub left_string :
-    {A : Type 0} (h : A → List ℕ) {run run' : List ℕ} (at : ℕ) {r : Held} {x y : Reading A}
-    → Holds h run run' at x r → r ≡ H.Wrong → x ≡ y → Left run run' y
+    {A : Type 0} (h : A → List ℕ) {run run' : List ℕ} (at : ℕ) {r : Option ℕ} {x y : Reading A}
+    → Holds h run run' at x r → r ≡ None → x ≡ y → Left run run' y
 left_string {A} h {run} {run'} at {r} {x} {y} f e g =
-    subst (λ (z : Reading A). Holds h run run' at z H.Wrong) g (subst (λ (q : Held). Holds h run run' at x q) e f)
+    subst (λ (z : Reading A). Holds h run run' at z None) g (subst (λ (q : Option ℕ). Holds h run run' at x q) e f)

@@ -1,13 +1,12 @@
 -- One thing or a list of at least one, held behind their number; and objects that have to have a member.
 use mathlib.Core.Path.{◌≡◌, refl, sym, ap, ◌∙◌, subst}
-use mathlib.Core.Bool.{Bool, true, false}
+use mathlib.Core.Bool.{true, false}
 use mathlib.Core.List.{List, [], ◌∷◌}
 use Prim.Native.Nat.{ℕ, ◌+◌, ◌≤◌, ◌<◌}
 use native.Mathlib.Omega.{arith}
 use lib.ListN.{length, set, length-append}
 use Rattle.text.specs.Json.{Json, null, bool, number, string, list, object, Values, no_more, also, Members}
 use Rattle.text.specs.Contents.{kind_of, Stands}
-use Rattle.text.specs.declared.walk.Kind.{Kind}
 use Rattle.syntax.specs.Forms.{Reading, wrong, read}
 use Rattle.syntax.specs.Members.{cons, each, some, one_or_more}
 use Rattle.syntax.specs.Policy.{Value, text, Row, Statement}
@@ -56,13 +55,6 @@ pub object_stands :
     {s : List ℕ} {t : Json} {v e : ℕ} → Stands s t v e → (h : is_object (kind_of t) ≡ true)
     → Stands s (object (is_object_lem t h).inside) v e
 object_stands {s} {t} {v} {e} p h = subst (λ (u : Json). Stands s u v e) (is_object_lem t h).is p
-
--- a test of the kind told, as it is for whatever stands there
-pub kind_told :
-    {s : List ℕ} {v : ℕ} {k : Kind} {b c : Bool} (f : Kind → Bool)
-    → ((t : Json) (e : ℕ) → Stands s t v e → k ≡ kind_of t) → b ≡ f k → b ≡ c
-    → (t : Json) (e : ℕ) → Stands s t v e → f (kind_of t) ≡ c
-kind_told f g h i t e p = ap f (sym (g t e p)) ∙ sym h ∙ i
 
 pub list_holdable :
     {s : List ℕ} {v : ℕ} {run : List ℕ} {at n : ℕ} (p : Holdable s v run at n) → is_list (kind_of p.what) ≡ true

@@ -1,20 +1,24 @@
 -- One walk over members fills every slot: the words of a layout differ, so a name has one turn, and what was found
 -- before is kept beside what is still to come.
 use mathlib.Core.Path.{◌≡◌, refl, sym, ap, ◌∙◌}
-use mathlib.Core.Bool.{Bool, true, false}
+use mathlib.Core.Bool.{Bool, true, false, cond, not}
 use mathlib.Core.List.{List, [], ◌∷◌}
 use Prim.Native.Nat.{ℕ, zero, suc, ◌+◌, ◌≤◌, ◌<◌}
 use native.Mathlib.Omega.{arith}
 use native.Mathlib.Numerals.{sub-one}
-use lib.Dec.{eqb}
+use lib.Dec.{eqb, ltb}
 use lib.ListN.{length, get_or}
-use borrow.Author.Tests.{eqb-true, eq-eqb}
+use borrow.Author.Tests.{eqb-true, eq-eqb, lt-ltb, le-ltb}
+use native.Mathlib.Decide.{dec_lt}
 use Rattle.chars.specs.Base.{pick}
 use Rattle.text.specs.Json.{Json, Members, named}
 use Rattle.chars.specs.Decoding.{Text, text_of, equal, same_text}
 use Rattle.syntax.specs.Forms.{both, either}
 use Rattle.syntax.specs.Members.{Slot, none, one, many, again, slot, is_among}
-use Rattle.parts.specs.Slots.{later, which_of, word_at, Turn}
+use Rattle.std.specs.Prelude.{Option, Some, None}
+use Rattle.std.specs.Borrow.{Bor}
+use Rattle.std.specs.List.{position, position_or_len}
+use Rattle.parts.specs.Slots.{later, which_of, as_turn, spelt, word_at, Turn}
 
 -- ---- a text is one word
 
@@ -66,18 +70,68 @@ differs_not n (m ∷ ms) (suc j) d h e = differs_on (equal n m) d (λ r. differs
 
 -- ---- the turn of a name
 
-module _ (w n : List ℕ) (ns : List (List ℕ)) where
-  pub which_here : same_text (text_of w) n ≡ true → 1 ≡ which_of (n ∷ ns) w
-  unfolding which_of
-  which_here e = rw e
+-- a turn that is told, and one that is not
+pub turn_some : (n : ℕ) {r : Option ℕ} {k : ℕ} → r ≡ as_turn n → r ≡ Some k → (k ≡ n) × (k ≡ 0 → ⊥)
+turn_some zero p q = cc
+turn_some (suc n) {k = k} p q = let e : k ≡ suc n = cc in (e, λ z. omega (arith, e, z))
 
-  pub which_later : (k : ℕ) → same_text (text_of w) n ≡ false → k ≡ which_of ns w → later k ≡ which_of (n ∷ ns) w
-  unfolding which_of
-  which_later k e z = rw e (ap later z)
+pub turn_none : (n : ℕ) {r : Option ℕ} → r ≡ as_turn n → r ≡ None → 0 ≡ n
+turn_none zero p q = refl
+turn_none (suc n) p q = cc
 
-pub which_none : (w : List ℕ) → 0 ≡ which_of [] w
+-- the first of some words that a name spells has its turn
+abbrev pub spells : List ℕ → Bor (List ℕ) → Bool
+spells w n = same_text (text_of w) n.now
+
+ltb_suc : (p n : ℕ) → ltb (suc p) (suc n) ≡ ltb p n
+ltb_suc p n = by (dec_lt p n)
+  where
+    by : Dec (p < n) → ltb (suc p) (suc n) ≡ ltb p n
+    by (yes h) = lt-ltb (suc p) (suc n) (omega arith) ∙ sym (lt-ltb p n h)
+    by (no h) = le-ltb (suc p) (suc n) (omega arith) ∙ sym (le-ltb p n (omega arith))
+
+turn_step : (t : Bool) (p k : ℕ) → cond t (Some (p + 1)) None ≡ as_turn k
+    → cond t (Some (suc p + 1)) None ≡ as_turn (later k)
+turn_step true p zero e = cc
+turn_step true p (suc k) e = let z : p + 1 ≡ suc k = cc in ap Some (omega (arith, z))
+turn_step false p zero e = refl
+turn_step false p (suc k) e = cc
+
+turn_is : (w : List ℕ) (ns : List (Bor (List ℕ)))
+    → cond (ltb (position_or_len (spells w) ns) (length ns)) (Some (position_or_len (spells w) ns + 1)) None
+    ≡ as_turn (which_of (spelt ns) w)
 unfolding which_of
-which_none w = refl
+turn_is w [] = refl
+turn_is w (n ∷ ns) = by (position_or_len (spells w) ns) (spells w n) (turn_is w ns)
+  where
+    by : (p : ℕ) (t : Bool) → cond (ltb p (length ns)) (Some (p + 1)) None ≡ as_turn (which_of (spelt ns) w)
+        → cond (ltb (cond (not t) (1 + p) 0) (suc (length ns))) (Some (cond (not t) (1 + p) 0 + 1)) None
+        ≡ as_turn (pick t 1 (later (which_of (spelt ns) w)))
+    by p true e = rw (lt-ltb 0 (suc (length ns)) (omega arith))
+    by p false e =
+        let next : 1 + p ≡ suc p = omega arith in
+        ap (λ (q : ℕ). cond (ltb q (suc (length ns))) (Some (q + 1)) None) next
+        ∙ ap (λ (t : Bool). cond t (Some (suc p + 1)) None) (ltb_suc p (length ns))
+        ∙ turn_step (ltb p (length ns)) p (which_of (spelt ns) w) e
+
+module _ (w : List ℕ) (ns : List (Bor (List ℕ))) {r : Option ℕ} (is : r ≡ position (spells w) ns) where
+  pub turn_at : {k : ℕ} → r ≡ Some k → Some (k + 1) ≡ as_turn (which_of (spelt ns) w)
+  turn_at {k} e = by (position_or_len (spells w) ns) (ltb (position_or_len (spells w) ns) (length ns)) (sym e ∙ is) (turn_is w ns)
+    where
+      by : (p : ℕ) (t : Bool) → Some k ≡ cond t (Some p) None
+          → cond t (Some (p + 1)) None ≡ as_turn (which_of (spelt ns) w)
+          → Some (k + 1) ≡ as_turn (which_of (spelt ns) w)
+      by p true f g = let z : k ≡ p = cc in ap (λ (i : ℕ). Some (i + 1)) z ∙ g
+      by p false f g = cc
+
+  pub turn_no : r ≡ None → None ≡ as_turn (which_of (spelt ns) w)
+  turn_no e = by (position_or_len (spells w) ns) (ltb (position_or_len (spells w) ns) (length ns)) (sym e ∙ is) (turn_is w ns)
+    where
+      by : (p : ℕ) (t : Bool) → None ≡ cond t (Some p) None
+          → cond t (Some (p + 1)) None ≡ as_turn (which_of (spelt ns) w)
+          → None ≡ as_turn (which_of (spelt ns) w)
+      by p true f g = cc
+      by p false f g = g
 
 later_is : (k : ℕ) → (later k ≡ 0 → k ≡ 0) × (later k ≤ k + 1)
 later_is zero = (λ e. refl, omega arith)

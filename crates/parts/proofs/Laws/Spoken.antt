@@ -1,6 +1,6 @@
 -- A string is a word as the part between its quotes is; words are tried in their turn.
 use mathlib.Core.Path.{◌≡◌, refl, sym, ap, ◌∙◌, subst}
-use mathlib.Core.Bool.{true, false}
+use mathlib.Core.Bool.{Bool, true, false}
 use mathlib.Core.List.{List}
 use Prim.Native.Nat.{ℕ}
 use Rattle.chars.specs.Base.{part}
@@ -16,6 +16,11 @@ use Rattle.syntax.specs.Members.{is_word}
 use Rattle.syntax.specs.PolicyLayout.{effect_of, operator_of}
 use Rattle.parts.specs.Holding.{is_text}
 use Rattle.parts.specs.Requests.{type_named}
+use Rattle.parts.specs.declared.words.ValueType.TheVariants as V
+use Rattle.std.specs.Prelude.{Some, None}
+use Rattle.std.specs.Bool.{then_some}
+use Rattle.parts.specs.Spoken.{told_effect}
+use Rattle.parts.specs.declared.words.Effect.TheVariants as E
 use Rattle.parts.proofs.Laws.Holding.{is_string, never}
 
 pub word_no : (n : List ℕ) (t : Json) → is_text (kind_of t) ≡ false → is_word n t ≡ false
@@ -39,7 +44,7 @@ word_said {s} {v} {e} {t} n q p h f =
     ap (is_word n) a.is ∙ ap (λ (w : List ℕ). same_text (text_of w) n) (sym r.is)
 
 -- the type that a string names
-pub type_no : (t : Json) → is_text (kind_of t) ≡ false → type_named t ≡ 0
+pub type_no : (t : Json) → is_text (kind_of t) ≡ false → type_named t ≡ None
 type_no t e = rw (word_no string_type_word t e, word_no numeric_type_word t e)
 
 pub type_said :
@@ -52,17 +57,17 @@ type_said {s} {v} {e} {t} q p h f =
     ap type_named a.is ∙ ap (λ (w : List ℕ). type_named (string w)) (sym r.is)
 
 module _ (w : List ℕ) where
-  pub raw_text : same_text (text_of w) string_type_word ≡ true → type_named (string w) ≡ 1
+  pub raw_text : same_text (text_of w) string_type_word ≡ true → type_named (string w) ≡ Some V.Text
   unfolding is_word
   raw_text e = rw e
 
   pub raw_number : same_text (text_of w) string_type_word ≡ false → same_text (text_of w) numeric_type_word ≡ true
-      → type_named (string w) ≡ 2
+      → type_named (string w) ≡ Some V.Number
   unfolding is_word
   raw_number e f = rw (e, f)
 
   pub raw_none : same_text (text_of w) string_type_word ≡ false → same_text (text_of w) numeric_type_word ≡ false
-      → type_named (string w) ≡ 0
+      → type_named (string w) ≡ None
   unfolding is_word
   raw_none e f = rw (e, f)
 
@@ -72,13 +77,11 @@ pub effect_allow : (t : Json) → is_word allow_word t ≡ true → effect_of t 
 unfolding effect_of
 effect_allow t h = rw h
 
-pub effect_deny : (t : Json) → is_word allow_word t ≡ false → is_word deny_word t ≡ true → effect_of t ≡ read P.Deny
+pub effect_rest : (t : Json) → is_word allow_word t ≡ false → (b : Bool) → b ≡ is_word deny_word t
+    → told_effect (then_some b E.Deny) ≡ effect_of t
 unfolding effect_of
-effect_deny t g h = rw (g, h)
-
-pub effect_wrong : (t : Json) → is_word allow_word t ≡ false → is_word deny_word t ≡ false → effect_of t ≡ wrong
-unfolding effect_of
-effect_wrong t g h = rw (g, h)
+effect_rest t g true h = rw (g, ← h)
+effect_rest t g false h = rw (g, ← h)
 
 pub operator_equals : (w : List ℕ) → same_text (text_of w) string_equals_word ≡ true → operator_of w ≡ read P.StringEquals
 unfolding operator_of

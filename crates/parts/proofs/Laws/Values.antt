@@ -13,7 +13,7 @@ use Rattle.held.specs.Held.{held_text, held_number, held_value}
 use Rattle.parts.specs.Spoken.{operator_is}
 use Rattle.parts.specs.Holding.{HoldsTo, entry_of}
 use Rattle.parts.specs.declared.holding.Ended.{Ended}
-use Rattle.parts.specs.declared.holding.Ended.TheVariants.{Past, Wrong}
+use Rattle.std.specs.Prelude.{Option, Some, None}
 use Rattle.parts.specs.declared.words.Operator.{Operator}
 use Rattle.parts.specs.declared.words.Operator.TheVariants as O
 use Rattle.parts.specs.declared.entries.Entry.{Entry}
@@ -21,17 +21,17 @@ use Rattle.parts.specs.declared.entries.Entry.TheVariants as E
 
 -- ---- held as a value
 
-pub ends_text : (run run' : List ℕ) (at e : ℕ) (x : Reading (List ℕ)) (r : Ended)
+pub ends_text : (run run' : List ℕ) (at e : ℕ) (x : Reading (List ℕ)) (r : Option Ended)
     → HoldsTo held_text run run' at x e r → HoldsTo held_value run run' at (as_text x) e r
-ends_text run run' at e x (Past p q) h =
+ends_text run run' at e x (Some r) h =
     (record { thing = text h.0.thing; said = ap as_text h.0.said; extends = h.0.extends }, h.1)
-ends_text run run' at e x Wrong h = record { size = h.size; said = ap as_text h.said }
+ends_text run run' at e x None h = record { size = h.size; said = ap as_text h.said }
 
-pub ends_number : (run run' : List ℕ) (at e : ℕ) (x : Reading ℕ) (r : Ended)
+pub ends_number : (run run' : List ℕ) (at e : ℕ) (x : Reading ℕ) (r : Option Ended)
     → HoldsTo held_number run run' at x e r → HoldsTo held_value run run' at (as_number x) e r
-ends_number run run' at e x (Past p q) h =
+ends_number run run' at e x (Some r) h =
     (record { thing = P.number h.0.thing; said = ap as_number h.0.said; extends = h.0.extends }, h.1)
-ends_number run run' at e x Wrong h = record { size = h.size; said = ap as_number h.said }
+ends_number run run' at e x None h = record { size = h.size; said = ap as_number h.said }
 
 -- ---- by the operator
 

@@ -1,6 +1,7 @@
 -- The walk over the operators of a condition as far as it has come.
+use Rattle.std.specs.Prelude.{Option, Some, None}
 use mathlib.Core.Path.{◌≡◌, refl, sym, ap, ◌∙◌, subst}
-use mathlib.Core.Bool.{true, false}
+use mathlib.Core.Bool.{Bool, true, false}
 use mathlib.Core.List.{List, [], ◌∷◌, ◌++◌}
 use Prim.Native.Nat.{ℕ, ◌+◌, ◌≤◌, ◌<◌}
 use native.Mathlib.Omega.{arith}
@@ -20,8 +21,6 @@ use Rattle.parts.specs.Room.{cost, Holdable, HoldableObject}
 use Rattle.parts.specs.Spoken.{operator_is, told_operator}
 use Rattle.parts.specs.Holding.{is_object, Extends, Laid, Left, Gathered}
 use Rattle.parts.specs.declared.words.Operator as W
-use Rattle.parts.specs.declared.words.Word.{Word}
-use Rattle.parts.specs.declared.words.Word.TheVariants.{Is, Wrong}
 use Rattle.parts.proofs.Laws.Holding.{never}
 use Rattle.parts.proofs.Laws.Formed.{then_wrong, then_read}
 use Rattle.parts.proofs.Laws.Fits.{wrong_read, then_inv, only_inv, cons_inv}
@@ -38,8 +37,8 @@ use Rattle.policy.proofs.Laws.Groups.{Many, Inside, many_rows, held_group, group
 use Rattle.straight.proofs.Laws.Seen.{Seen, seen_none, seen_more}
 use Rattle.policy.proofs.Laws.Groups.{operators_is}
 
-pub record Operators (s : List ℕ) (v : ℕ) (run₀ : List ℕ) (at : ℕ) (run marks : List ℕ) (m : Member) (p n : ℕ)
-    : Type 0 where
+pub record Operators (s : List ℕ) (v : ℕ) (run₀ : List ℕ) (at : ℕ) (run : List ℕ) (marks : List Bool) (m : Member)
+    (p n : ℕ) : Type 0 where
   pub groups : List Group
   pub going : Collecting held_group group_of group_fits s v run₀ at run m p n groups
   pub count : n ≡ length (rows_in groups)
@@ -48,7 +47,7 @@ pub record Operators (s : List ℕ) (v : ℕ) (run₀ : List ℕ) (at : ℕ) (ru
 
 pub operators_start :
     {s : List ℕ} {v at : ℕ} {run : List ℕ} (p : HoldableObject s v run at) (m : Member)
-    → Leads s v p.what p.stop m → Operators s v run at run (replicate 4 0) m at 0
+    → Leads s v p.what p.stop m → Operators s v run at run (replicate 4 false) m at 0
 unfolding differ rows_in
 operators_start p m c =
     record {
@@ -62,11 +61,11 @@ operators_start p m c =
 -- ---- a group
 
 module _ (w : List ℕ) (t : Json) where
-  pub group_unknown : {x : Word} → told_operator x ≡ operator_of w → x ≡ Wrong → group_of w t ≡ wrong
+  pub group_unknown : {x : Option W.Operator} → told_operator x ≡ operator_of w → x ≡ None → group_of w t ≡ wrong
   unfolding group_of
   group_unknown e f = then_wrong _ (sym e ∙ ap told_operator f)
 
-  pub known : {x : Word} {o : W.Operator} → told_operator x ≡ operator_of w → x ≡ Is o → operator_of w ≡ read
+  pub known : {x : Option W.Operator} {o : W.Operator} → told_operator x ≡ operator_of w → x ≡ Some o → operator_of w ≡ read
       (operator_is o)
   known e f = sym e ∙ ap told_operator f
 
@@ -91,7 +90,7 @@ module _ (w : List ℕ) (t : Json) where
 
 -- ---- the walk
 
-module _ {s : List ℕ} {v at : ℕ} {run₀ run marks : List ℕ} {m : Member} {p n : ℕ}
+module _ {s : List ℕ} {v at : ℕ} {run₀ run : List ℕ} {marks : List Bool} {m : Member} {p n : ℕ}
     (g : Operators s v run₀ at run marks m p n) where
   abbrev told : (P : Members → Type 0) → P g.going.whole → (ms : Members) (e : ℕ) → Stands s (object ms) v e → P ms
   told = whole_told held_group group_of group_fits g.going
@@ -144,7 +143,7 @@ module _ {s : List ℕ} {v at : ℕ} {run₀ run marks : List ℕ} {m : Member} 
 
     -- an operator seen before
     pub operators_twice :
-        (o : Operator) → operator_of (part s a b) ≡ read o → (get_or marks (operator_number o) 0 ≡ 0 → ⊥)
+        (o : Operator) → operator_of (part s a b) ≡ read o → get_or marks (operator_number o) false ≡ true
         → (ms : Members) (e : ℕ) → Stands s (object ms) v e → Left run₀ run (operators_in ms)
     operators_twice o e z =
         told (λ x. Left run₀ run (operators_in x))
@@ -187,9 +186,9 @@ module _ {s : List ℕ} {v at : ℕ} {run₀ run marks : List ℕ} {m : Member} 
           omega (arith, next_cost held_group group_of group_fits g.going a b i q, x.few, x.bounded, few)
 
       pub operators_more :
-          (k : ℕ) → k ≡ operator_number o → get_or marks k 0 ≡ 0 → (m' : Member) (y : ℕ) → y ≡ here.stop
+          (k : ℕ) → k ≡ operator_number o → get_or marks k false ≡ false → (m' : Member) (y : ℕ) → y ≡ here.stop
           → ((ms : Members) (z : ℕ) → Others s ms y z → Leads s y ms z m')
-          → Operators s v run₀ at run' (set marks k 1) m' p' (n + c)
+          → Operators s v run₀ at run' (set marks k true) m' p' (n + c)
       unfolding group group_laid
       operators_more k f z m' y h l =
           let it : Group = record { operator = o; rows = d.things } in
@@ -198,7 +197,7 @@ module _ {s : List ℕ} {v at : ℕ} {run₀ run marks : List ℕ} {m : Member} 
             going = collecting_more held_group group_of group_fits g.going a b i q group (omega (arith, few)) m' y h l;
             count = omega (arith, rows_snoc g.groups it, g.count, d.count);
             apart = differ_snoc same_group same_group_symmetric g.groups it g.apart
-                (g.seen.clear it (ap (λ (j : ℕ). get_or marks j 0) (sym f) ∙ z));
+                (g.seen.clear it (ap (λ (j : ℕ). get_or marks j false) (sym f) ∙ z));
             seen = seen_more it k f g.seen;
           }
 

@@ -1,10 +1,11 @@
 -- A walk over a policy's members comes to one more.
 --   partway_wrong   one that breaks the layout makes the policy wrong, whatever is to come
 --   partway_more    else it is one more that came
+use Rattle.std.specs.Prelude.{Option, Some, None}
 use mathlib.Core.Path.{◌≡◌, sym, ap, ◌∙◌, subst}
 use mathlib.Core.Bool.{Bool}
 use mathlib.Core.List.{List}
-use Prim.Native.Nat.{ℕ}
+use Prim.Native.Nat.{ℕ, zero, suc, ◌<◌}
 use native.Mathlib.Omega.{arith}
 use lib.ListN.{length, get_or, set}
 use lib.Seq.{get_or-set_same, get_or-set_other}
@@ -25,7 +26,6 @@ use Rattle.parts.specs.Room.{Holdable}
 use Rattle.parts.specs.Holding.{Laid, Left}
 use Rattle.parts.specs.declared.members.Layout.TheVariants as L
 use Rattle.policy.specs.declared.statements.Partly.{Partly}
-use Rattle.policy.specs.declared.statements.Partly.TheVariants as Y
 use Rattle.parts.proofs.Laws.Slots.{which_most}
 use Rattle.parts.proofs.Laws.Walking.{Walking, layout_distinct, layout_few}
 use Rattle.parts.proofs.Laws.WalkingOn.{leader, rest_cost, walking_unknown, walking_repeated, walking_wrong}
@@ -38,16 +38,27 @@ use Rattle.policy.proofs.Laws.Partway.{words, Versioned, Stated, Partway}
 -- ---- what the answer tells
 
 pub adds_so :
-    (k v : ℕ) (t : Json) (e : ℕ) (run run' : List ℕ) (version past : ℕ) {r : Partly} {version' past' q : ℕ}
-    → Adds k v t e run run' version past r → r ≡ Y.So version' past' q
-    → (Takes k v t run run' version past version' past') × (q ≡ e)
+    (k v : ℕ) (t : Json) (e : ℕ) (run run' : List ℕ) (version past : ℕ) {r : Option Partly} {y : Partly}
+    → Adds k v t e run run' version past r → r ≡ Some y
+    → (Takes k v t run run' version past y.version y.past) × (y.end ≡ e)
 adds_so k v t e run run' version past f z = subst (Adds k v t e run run' version past) z f
 
 pub adds_wrong :
-    (k v : ℕ) (t : Json) (e : ℕ) (run run' : List ℕ) (version past : ℕ) {r : Partly}
-    → Adds k v t e run run' version past r → r ≡ Y.Wrong
+    (k v : ℕ) (t : Json) (e : ℕ) (run run' : List ℕ) (version past : ℕ) {r : Option Partly}
+    → Adds k v t e run run' version past r → r ≡ None
     → (length run' ≡ length run) × (Breaks k t version past)
 adds_wrong k v t e run run' version past f z = subst (Adds k v t e run run' version past) z f
+
+pub adds_none :
+    (k v : ℕ) (t : Json) (e : ℕ) (run run' : List ℕ) (version past : ℕ) {r : Option Partly}
+    → r ≡ None → (length run' ≡ length run) × (Breaks k t version past)
+    → Adds k v t e run run' version past r
+adds_none k v t e run run' version past z f = subst (Adds k v t e run run' version past) (sym z) f
+
+-- a number that is not 0
+pub positive : {k : ℕ} → (k ≡ 0 → ⊥) → 0 < k
+positive {k = zero} z = absurd (z (omega arith))
+positive {k = suc k} z = omega arith
 
 -- ---- what was held
 

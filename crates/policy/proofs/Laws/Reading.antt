@@ -1,4 +1,5 @@
 -- Bytes come to one outcome, by either rules; what the readers of whole texts need of it.
+use Rattle.std.specs.Prelude.{Option, Some, None}
 use mathlib.Core.Path.{◌≡◌, refl, sym, ap, ◌∙◌, subst}
 use mathlib.Core.Bool.{Bool, true, false}
 use mathlib.Core.List.{List}
@@ -11,11 +12,12 @@ use lib.Seq.{length-take-le}
 use borrow.Author.Tests.{lt-ltb, le-ltb}
 use Rattle.chars.specs.Base.{pick}
 use Rattle.text.specs.Json.{Json, levels}
-use Rattle.text.specs.Verdicts.{Text, Means}
+use Rattle.text.specs.Verdicts.{Verdict, Text, Means}
 use Rattle.text.specs.Machine.{verdict}
 use Rattle.text.specs.Contents.{Stands, Rooted}
-use Rattle.text.specs.declared.verdict.Verdict.{Verdict}
-use Rattle.text.specs.declared.verdict.Verdict.TheVariants.{Whole, Breaks, Deep}
+use Rattle.std.specs.Prelude.{Ok, Err}
+use Rattle.text.specs.declared.fault.Fault.{Fault}
+use Rattle.text.specs.declared.fault.Fault.TheVariants.{Breaks, Deep}
 use Rattle.text.proofs.Laws.Meaning.{verdict_means, verdict_unique}
 use Rattle.text.proofs.Laws.Contents.{contents, contents_is, stands_done}
 use Rattle.syntax.specs.Policy.{Policy}
@@ -29,8 +31,6 @@ use Rattle.held.specs.Lying.{Lies}
 use Rattle.policy.specs.Reading.{Outcome, refused, known, Rules, policy_comes, request_comes, policy_rules}
 use Rattle.policy.specs.Reading.{record_rules, Says, long, broken, deep, text, Knows, Lent, Fit}
 use Rattle.policy.specs.declared.refusals.Refusal.TheVariants.{PolicyLayout, PolicyLimit, RecordLayout}
-use Rattle.parts.specs.declared.holding.Held.{Held}
-use Rattle.parts.specs.declared.holding.Held.TheVariants as H
 use Rattle.objects.specs.Telling.{TakenText, TakesText}
 use Rattle.parts.proofs.Laws.Room.{cost_within}
 use Rattle.parts.proofs.Laws.Extends.{extends_within, extends_lies}
@@ -39,9 +39,9 @@ use Rattle.parts.proofs.Laws.Extends.{extends_within, extends_lies}
 
 module _ {A : Type 0} (k : Rules A) where
   unfoldable pub by_verdict : List ℕ → Verdict → Outcome A
-  by_verdict s Whole = k.comes (contents s)
-  by_verdict s (Breaks p) = refused (k.not_json p)
-  by_verdict s Deep = refused k.not_layout
+  by_verdict s (Ok x) = k.comes (contents s)
+  by_verdict s (Err (Breaks p)) = refused (k.not_json p)
+  by_verdict s (Err Deep) = refused k.not_layout
 
   -- the outcome as a function
   unfoldable pub outcome : List ℕ → Outcome A
@@ -55,19 +55,19 @@ module _ {A : Type 0} (k : Rules A) where
   pub says_is : (s : List ℕ) {x : Outcome A} → Says k s x → x ≡ outcome s
   unfolding outcome by_verdict
   says_is s (long h) = rw (lt-ltb k.most (length s) h) refl
-  says_is s (broken {p} h b) = sym (outcome_short s (Breaks p) h b)
-  says_is s (deep h b) = sym (outcome_short s Deep h b)
+  says_is s (broken {p} h b) = sym (outcome_short s (Err (Breaks p)) h b)
+  says_is s (deep h b) = sym (outcome_short s (Err Deep) h b)
   says_is s (text h x) =
-      ap k.comes (sym (contents_is s x.tree (sym (verdict_unique s Whole x)) x.says))
-      ∙ sym (outcome_short s Whole h x)
+      ap k.comes (sym (contents_is s x.tree (sym (verdict_unique s (Ok tt) x)) x.says))
+      ∙ sym (outcome_short s (Ok tt) h x)
 
   by_some : (s : List ℕ) (v : Verdict) → length s ≤ k.most → Means s v → Says k s (by_verdict s v)
   unfolding by_verdict
-  by_some s Whole h m =
+  by_some s (Ok x) h m =
       subst (λ (t : Json). Says k s (k.comes t))
-      (sym (contents_is s m.tree (sym (verdict_unique s Whole m)) m.says)) (text h m)
-  by_some s (Breaks p) h m = broken h m
-  by_some s Deep h m = deep h m
+      (sym (contents_is s m.tree (sym (verdict_unique s (Ok tt) m)) m.says)) (text h m)
+  by_some s (Err (Breaks p)) h m = broken h m
+  by_some s (Err Deep) h m = deep h m
 
   -- every text has an outcome, and no two
   pub says_some : (s : List ℕ) → Says k s (outcome s)
@@ -87,13 +87,13 @@ module _ {A : Type 0} (k : Rules A) where
   pub says_long : (s : List ℕ) → k.most < length s → Says k s (refused k.too_long)
   says_long s h = long h
 
-  pub says_broken : (s : List ℕ) (p : ℕ) {v : Verdict} → length s ≤ k.most → v ≡ verdict s → v ≡ Breaks p
+  pub says_broken : (s : List ℕ) (p : ℕ) {f : Fault} → length s ≤ k.most → Err f ≡ verdict s → f ≡ Breaks p
       → Says k s (refused (k.not_json p))
-  says_broken s p h e f = broken h (subst (Means s) (sym e ∙ f) (verdict_means s))
+  says_broken s p h e q = broken h (subst (Means s) (sym e ∙ ap Err q) (verdict_means s))
 
-  pub says_deep : (s : List ℕ) {v : Verdict} → length s ≤ k.most → v ≡ verdict s → v ≡ Deep
+  pub says_deep : (s : List ℕ) {f : Fault} → length s ≤ k.most → Err f ≡ verdict s → f ≡ Deep
       → Says k s (refused k.not_layout)
-  says_deep s h e f = deep h (subst (Means s) (sym e ∙ f) (verdict_means s))
+  says_deep s h e q = deep h (subst (Means s) (sym e ∙ ap Err q) (verdict_means s))
 
   -- no two answers about the same bytes, and no two held runs
   pub answers_unique :
@@ -109,7 +109,7 @@ module _ {A : Type 0} (k : Rules A) where
 
 -- ---- a whole text
 
-module _ {s : List ℕ} (e : verdict s ≡ Whole) where
+module _ {s : List ℕ} (e : verdict s ≡ Ok tt) where
   pub verdict_text : Text levels s
   verdict_text = subst (Means s) e (verdict_means s)
 
@@ -192,10 +192,10 @@ module _ {s : List ℕ} (short : length s ≤ 8192) (x : Text levels s) where
 -- ---- a text in the usual form
 
 module _ {A : Type 0} (h : A → List ℕ) (f : Json → Reading A) (s run run' : List ℕ) where
-  pub text_past : {r : Held} {n : ℕ} → TakesText h f s run run' r → r ≡ H.Past n → TakenText h f s run run' n
+  pub text_past : {r : Option ℕ} {n : ℕ} → TakesText h f s run run' r → r ≡ Some n → TakenText h f s run run' n
   text_past t k = subst (TakesText h f s run run') k t
 
-  pub text_wrong : {r : Held} → TakesText h f s run run' r → r ≡ H.Wrong → length run' ≡ length run
+  pub text_wrong : {r : Option ℕ} → TakesText h f s run run' r → r ≡ None → length run' ≡ length run
   text_wrong t k = subst (TakesText h f s run run') k t
 
 -- the run that was written on is lent again

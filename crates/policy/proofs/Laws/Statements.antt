@@ -2,6 +2,7 @@
 --   slots_left          there is none where a member is unknown or repeated
 --   effect_missing ..   nor where one is missing, or the effect is wrong
 --   statement_laid      else it is the effect and the other parts
+use Rattle.std.specs.Prelude.{Option}
 use mathlib.Core.Path.{◌≡◌, refl, sym, ap, ◌∙◌, subst}
 use mathlib.Core.Bool.{true, false}
 use mathlib.Core.Logic.{⊎_elim}
@@ -21,7 +22,7 @@ use Rattle.syntax.specs.PolicyLayout.{statement_of}
 use Rattle.held.specs.Held.{held_statement, effect_number}
 use Rattle.parts.specs.Room.{costm}
 use Rattle.parts.specs.Holding.{is_object, Extends, Laid, Left, HoldsTo}
-use Rattle.policy.specs.Statements.{effect_told, parts_of, held_parts, HoldableParts}
+use Rattle.policy.specs.Statements.{parts_of, held_parts, HoldableParts}
 use Rattle.policy.specs.Statements as S
 use Rattle.parts.specs.declared.holding.Ended.{Ended}
 use Rattle.parts.specs.declared.members.Layout.TheVariants as L
@@ -33,7 +34,7 @@ use Rattle.parts.proofs.Laws.Several.{is_object_lem}
 use Rattle.parts.proofs.Laws.ReadParts.{Parts, parts_inv}
 use Rattle.policy.proofs.Laws.StatementsParts.{There, placed_absent, placed_there}
 use Rattle.policy.proofs.Laws.StatementsRead.{not_read, both_ways, pick_no, pick_wrong, pick_yes, right, turn_of_lem}
-use Rattle.policy.proofs.Laws.StatementsRead.{required_none, slot_cost_lem, told_wrong, told_right, with_effect}
+use Rattle.policy.proofs.Laws.StatementsRead.{required_none, slot_cost_lem, with_effect}
 use Rattle.policy.proofs.Laws.StatementsRead.{five, in_turn_lem}
 
 -- ---- no statement
@@ -48,7 +49,7 @@ not_object (list ts) e = refl
 not_object (object ms) e = never (sym e)
 
 pub of_object :
-    (run run' : List ℕ) (at e : ℕ) (r : Ended) (t : Json) (h : is_object (kind_of t) ≡ true)
+    (run run' : List ℕ) (at e : ℕ) (r : Option Ended) (t : Json) (h : is_object (kind_of t) ≡ true)
     → HoldsTo held_statement run run' at (statement_of (object (is_object_lem t h).inside)) e r
     → HoldsTo held_statement run run' at (statement_of t) e r
 of_object run run' at e r t h g =
@@ -154,14 +155,13 @@ module _ (ms : Members) where
       effect_standing =
           record { what = effect_there.what; stop = effect_there.stop; is = effect_there.stands }
 
-      pub effect_left :
-          {run : List ℕ} {n : ℕ} (x : Reading Effect) → x ≡ effect_of effect_there.what → n ≡ effect_told x → n ≡ 0
+      pub effect_left : {run : List ℕ} (x : Reading Effect) → x ≡ effect_of effect_there.what → x ≡ wrong
           → Left run run (statement_of (object ms))
-      effect_left x q e k =
+      effect_left x q e =
           record {
             size = refl;
             said = no_statement (λ y h. both_ways
-                (ap (required effect_of) effect_there.is ∙ sym q ∙ told_wrong x (sym e ∙ k)) h.effect_is);
+                (ap (required effect_of) effect_there.is ∙ sym q ∙ e) h.effect_is);
           }
 
       -- Effect's cost pays for what is absent
@@ -229,16 +229,14 @@ module _ (ms : Members) where
           ∙ in_turn_lem e i (one_or_more action_of action_there.what) (one_or_more resource_of resource_there.what) cs
 
       pub statement_laid :
-          {run run' : List ℕ} {at p n : ℕ} (x : Reading Effect) → x ≡ effect_of effect_there.what
-          → n ≡ effect_told x → (n ≡ 0 → ⊥) → at < length run → Laid held_parts run run' (at + 1) parts p
+          {run run' : List ℕ} {at p n : ℕ} (f : Effect) → read f ≡ effect_of effect_there.what
+          → n ≡ effect_number f → at < length run → Laid held_parts run run' (at + 1) parts p
           → Laid held_statement run (set run' at n) at (statement_of (object ms)) p
       unfolding held_parts held_statement
-      statement_laid {run} {run'} {at} {p} {n} x q e k low d =
-          let t = told_right x (λ y. k (e ∙ y)) in
-          let m : n ≡ effect_number t.effect = e ∙ ap effect_told t.said in
+      statement_laid {run} {run'} {at} {p} {n} f q m low d =
           record {
-            thing = with_effect t.effect d.thing;
-            said = said_by t.effect (sym q ∙ t.said) ∙ then_read _ d.said;
+            thing = with_effect f d.thing;
+            said = said_by f (sym q) ∙ then_read _ d.said;
             extends = subst (λ (i : ℕ). Extends run (set run' at n) at (i ∷ held_parts d.thing) p) m
                 (extends_front n low d.extends);
           }

@@ -3,6 +3,7 @@
 --   absent_laid, there_laid ..    what is held of a member that may be absent
 --   texts_laid, texts_left        Action and Resource entries are texts
 --   parts_holds ..                one part behind the other
+use Rattle.std.specs.Prelude.{Option, Some, None}
 use mathlib.Core.Path.{◌≡◌, refl, sym, ap, ◌∙◌, subst}
 use mathlib.Core.List.{List, [], ◌∷◌}
 use Prim.Native.Nat.{ℕ, ◌+◌, ◌≤◌, ◌<◌}
@@ -18,10 +19,7 @@ use Rattle.held.specs.Held.{held_text, held_each, held_list, held_row}
 use Rattle.parts.specs.Room.{cost, Holdable, cost_of, HoldableSlot}
 use Rattle.parts.specs.Holding.{Extends, Laid, Left, Holds, HoldsTo}
 use Rattle.policy.specs.Statements.{parts_of, held_parts}
-use Rattle.parts.specs.declared.holding.Held.{Held}
-use Rattle.parts.specs.declared.holding.Held.TheVariants as H
 use Rattle.parts.specs.declared.holding.Ended.{Ended}
-use Rattle.parts.specs.declared.holding.Ended.TheVariants.{Past, Wrong}
 use Rattle.straight.proofs.Laws.AsTexts.{as_texts, texts}
 pub use Rattle.straight.proofs.Laws.AsTexts.{texts_laid}
 use Rattle.parts.proofs.Laws.Extends.{extends_none, extends_front, extends_then}
@@ -67,15 +65,15 @@ module _ {A : Type 0} (h : A → List ℕ) (d : A) (f : Json → Reading A) wher
             (extends_front 0 low (extends_none run (at + 1)));
       }
 
-  module _ {s : List ℕ} {v : ℕ} (run run' : List ℕ) (at : ℕ) (r : Ended) (n : v ≡ 0 → ⊥)
+  module _ {s : List ℕ} {v : ℕ} (run run' : List ℕ) (at : ℕ) (r : Option Ended) (n : v ≡ 0 → ⊥)
       (g : (t : Json) (e : ℕ) → Stands s t v e → HoldsTo h run run' at (f t) e r) where
-    pub there_laid : {p q : ℕ} → r ≡ Past p q → (x : Slot) → Placed s v x → Laid h run run' at (optional d f x) p
-    there_laid {p} k x i =
+    pub there_laid : {y : Ended} → r ≡ Some y → (x : Slot) → Placed s v x → Laid h run run' at (optional d f x) y.past
+    there_laid {y} k x i =
         let t = placed_there i n in
-        subst (λ (y : Slot). Laid h run run' at (optional d f y) p) (sym t.is)
+        subst (λ (z : Slot). Laid h run run' at (optional d f z) y.past) (sym t.is)
         (ends_past h run run' at (f t.what) t.stop (g t.what t.stop t.stands) k).0
 
-    pub there_left : r ≡ Wrong → (x : Slot) → Placed s v x → Left run run' (optional d f x)
+    pub there_left : r ≡ None → (x : Slot) → Placed s v x → Left run run' (optional d f x)
     there_left k x i =
         let t = placed_there i n in
         subst (λ (y : Slot). Left run run' (optional d f y)) (sym t.is)
@@ -140,16 +138,16 @@ module _ (i : Slot) (x y : Json) (c : Slot) where
 
       module _ {run₃ : List ℕ} {u : ℕ} (d : Laid (held_list held_text) run₂ run₃ q (one_or_more resource_of y) u) where
         pub parts_holds :
-            (run' : List ℕ) (r : Held) → Holds (held_list held_row) run₃ run' u (optional [] condition_of c) r
+            (run' : List ℕ) (r : Option ℕ) → Holds (held_list held_row) run₃ run' u (optional [] condition_of c) r
             → Holds held_parts run run' at (parts_of i x y c) r
         unfolding parts_of held_parts
-        parts_holds run' (H.Past k) l =
+        parts_holds run' (Some k) l =
             record {
               thing = record { sid = a.thing; actions = b.thing; resources = d.thing; rows = l.thing };
               said = then_read _ a.said ∙ then_read _ b.said ∙ then_read _ d.said ∙ then_read _ l.said;
               extends = extends_then a.extends (extends_then b.extends (extends_then d.extends l.extends));
             }
-        parts_holds run' H.Wrong l =
+        parts_holds run' None l =
             record {
               size = l.size ∙ d.extends.size ∙ b.extends.size ∙ a.extends.size;
               said = then_read _ a.said ∙ then_read _ b.said ∙ then_read _ d.said ∙ then_wrong _ l.said;

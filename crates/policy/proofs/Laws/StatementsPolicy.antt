@@ -3,6 +3,7 @@
 --   no_version, no_statements      where a member is missing or wrong there is no policy
 --   not_members                    nor where one is unknown or repeated
 --   policy_is                      else it is what its statements are
+use Rattle.std.specs.Prelude.{Option}
 use mathlib.Core.Path.{◌≡◌, refl, sym, ap, ◌∙◌, subst}
 use mathlib.Core.Bool.{Bool, true, false}
 use mathlib.Core.Logic.{◌⊎◌, ⊎_elim}
@@ -23,7 +24,6 @@ use Rattle.held.specs.Held.{held_each, held_statement, held}
 use Rattle.parts.specs.Room.{cost, costm, HoldableObject}
 use Rattle.parts.specs.Holding.{is_list, is_object, Extends, Laid, Left, Gathered, Holds}
 use Rattle.policy.specs.Statements.{statements_of, HoldablePolicy}
-use Rattle.parts.specs.declared.holding.Held.{Held}
 use Rattle.parts.specs.declared.members.Layout.TheVariants as L
 use Rattle.parts.proofs.Laws.Holding.{never}
 use Rattle.parts.proofs.Laws.Extends.{extends_front}
@@ -135,7 +135,7 @@ policy_holdable {s} {v} {run} p h =
     }
 
 pub policy_alike :
-    (run run' : List ℕ) (r : Held) (t : Json) (h : is_object (kind_of t) ≡ true)
+    (run run' : List ℕ) (r : Option ℕ) (t : Json) (h : is_object (kind_of t) ≡ true)
     → Holds held run run' 0 (policy_of (object (is_object_lem t h).inside)) r → Holds held run run' 0 (policy_of t) r
 policy_alike run run' r t h g =
     subst (λ (u : Json). Holds held run run' 0 (policy_of u) r) (sym (is_object_lem t h).is) g

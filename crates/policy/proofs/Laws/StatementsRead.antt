@@ -11,12 +11,11 @@ use native.Mathlib.Omega.{arith}
 use lib.ListN.{length, get_or}
 use Rattle.chars.specs.Base.{pick}
 use Rattle.text.specs.Json.{Json, Members}
-use Rattle.syntax.specs.Policy.{Effect, Allow, Deny, Row, Statement}
+use Rattle.syntax.specs.Policy.{Effect, Row, Statement}
 use Rattle.syntax.specs.Forms.{Reading, wrong, read}
 use Rattle.syntax.specs.Members.{then, Slot, none, one, many, slot, known, required}
 use Rattle.parts.specs.Slots.{words_of, word_at, Placed, Turn, Slotted}
 use Rattle.parts.specs.Room.{cost_of}
-use Rattle.policy.specs.Statements.{effect_told}
 use Rattle.policy.specs.Statements as S
 use Rattle.parts.specs.declared.members.Layout.{Layout}
 use Rattle.parts.proofs.Laws.Room.{slot_cost}
@@ -62,21 +61,6 @@ pub slot_cost_lem : (n : List ℕ) (x : Slot) → cost_of x ≤ slot_cost n x
 slot_cost_lem n none = omega arith
 slot_cost_lem n many = omega arith
 slot_cost_lem n (one t) = omega arith
-
--- ---- an effect
-
-pub told_wrong : (x : Reading Effect) → effect_told x ≡ 0 → x ≡ wrong
-told_wrong wrong e = refl
-told_wrong (read Allow) e = absurd (omega arith)
-told_wrong (read Deny) e = absurd (omega arith)
-
-pub record Told (x : Reading Effect) : Type 0 where
-  pub effect : Effect
-  pub said : x ≡ read effect
-
-pub told_right : (x : Reading Effect) → (effect_told x ≡ 0 → ⊥) → Told x
-told_right wrong n = absurd (n refl)
-told_right (read e) n = record { effect = e; said = refl }
 
 -- ---- an effect and the other parts
 

@@ -2,8 +2,10 @@
 --   said_wrong ..    an answer that nothing was held, or that a word is no effect, tells that the reading is wrong
 --   value_holdable   the value of a member has room in a run as long as the text
 --   member_bad       what is told of the members that stand at a place is told of all that the grammar reads there
-use mathlib.Core.Path.{◌≡◌, refl, sym, ◌∙◌, subst}
-use mathlib.Core.Bool.{true}
+use Rattle.std.specs.Prelude.{Option, Some, None}
+use mathlib.Core.Path.{◌≡◌, refl, sym, ap, ◌∙◌, subst}
+use Rattle.std.specs.Option.{is_some}
+use mathlib.Core.Bool.{Bool, true, false, not}
 use mathlib.Core.List.{List}
 use Prim.Native.Nat.{ℕ, ◌≤◌, ◌<◌}
 use native.Mathlib.Omega.{arith}
@@ -21,46 +23,37 @@ use Rattle.syntax.specs.Members.{one_or_more}
 use Rattle.syntax.specs.PolicyLayout.{as_text, effect_of}
 use Rattle.held.specs.Held.{held_list, held_value}
 use Rattle.parts.specs.Room.{Holdable}
-use Rattle.parts.specs.Holding.{Left, HoldsTo}
+use Rattle.parts.specs.Holding.{HoldsTo}
 use Rattle.parts.specs.Spoken.{told_effect}
 use Rattle.parts.specs.Unfit.{turn_of, UnfitAs, UnfitFirst, Bad}
 use Rattle.parts.specs.declared.holding.Ended.{Ended}
-use Rattle.parts.specs.declared.holding.Ended.TheVariants as N
 use Rattle.parts.specs.declared.words.Effect.{Effect}
-use Rattle.parts.specs.declared.words.Effect.TheVariants as E
 use Rattle.parts.proofs.Laws.Holding.{never}
 use Rattle.parts.proofs.Laws.Room.{cost_within, roomy_less}
-use Rattle.policy.specs.Unfit.{is_wrong, is_no_effect}
 use Rattle.policy.proofs.Laws.StatementsParts.{texts_left}
 
 -- ---- what an answer tells
 
--- nothing was held, so the run only may have been written on
-left_wrong : {A : Type 0} (h : A → List ℕ) (run run' : List ℕ) (at : ℕ) (x : Reading A) (e : ℕ) (r : Ended)
-    → HoldsTo h run run' at x e r → is_wrong r ≡ true → Left run run' x
-left_wrong h run run' at x e (N.Past p q) g z = never z
-left_wrong h run run' at x e N.Wrong g z = g
+pub not_some : {b r : Bool} → b ≡ not r → r ≡ true → b ≡ false
+not_some e z = e ∙ ap not z
 
-pub said_wrong : {A : Type 0} (h : A → List ℕ) (run run' : List ℕ) (at : ℕ) (x : Reading A) (e : ℕ) (r : Ended)
-    → HoldsTo h run run' at x e r → is_wrong r ≡ true → x ≡ wrong
-said_wrong h run run' at x e r g z = (left_wrong h run run' at x e r g z).said
+pub said_wrong : {A : Type 0} (h : A → List ℕ) (run run' : List ℕ) (at : ℕ) (x : Reading A) (e : ℕ) (r : Option Ended)
+    → HoldsTo h run run' at x e r → is_some r ≡ false → x ≡ wrong
+said_wrong h run run' at x e (Some y) g z = never (sym z)
+said_wrong h run run' at x e None g z = g.said
 
 -- Action and Resource entries are texts
 pub entries_wrong :
-    (g : Json → Reading (List ℕ)) (run run' : List ℕ) (at : ℕ) (t : Json) (e : ℕ) (r : Ended)
-    → HoldsTo (held_list held_value) run run' at (one_or_more (λ t. as_text (g t)) t) e r → is_wrong r ≡ true
+    (g : Json → Reading (List ℕ)) (run run' : List ℕ) (at : ℕ) (t : Json) (e : ℕ) (r : Option Ended)
+    → HoldsTo (held_list held_value) run run' at (one_or_more (λ t. as_text (g t)) t) e r → is_some r ≡ false
     → one_or_more g t ≡ wrong
-entries_wrong g run run' at t e r p z =
-    (texts_left g t (left_wrong (held_list held_value) run run' at (one_or_more (λ t. as_text (g t)) t) e r p z)).said
+entries_wrong g run run' at t e (Some y) p z = never (sym z)
+entries_wrong g run run' at t e None p z = (texts_left g t p).said
 
 -- a word that is neither effect
-told_none : (e : Effect) → is_no_effect e ≡ true → told_effect e ≡ wrong
-told_none E.Allow z = never z
-told_none E.Deny z = never z
-told_none E.Wrong z = refl
-
-pub effect_wrong : (e : Effect) (t : Json) → told_effect e ≡ effect_of t → is_no_effect e ≡ true → effect_of t ≡ wrong
-effect_wrong e t p z = sym p ∙ told_none e z
+pub effect_wrong : (e : Option Effect) (t : Json) → told_effect e ≡ effect_of t → is_some e ≡ false → effect_of t ≡ wrong
+effect_wrong (Some e) t p z = never (sym z)
+effect_wrong None t p z = sym p
 
 -- ---- room
 

@@ -11,4 +11,4 @@ returns-then-run-ne-RUN c = unfit c.if-run-ne-RUN.true refl
 
 pub returns : goal.returns
 returns c =
-    tells policy_rules held _ _ _ c.read_policy-r.result c.if-run-ne-RUN.false c.read_policy-r.ensures c.numbers.ensures
+    tells policy_rules held _ _ _ c.read_policy.result c.if-run-ne-RUN.false c.read_policy.ensures c.numbers.ensures

@@ -11,4 +11,4 @@ returns-then-run-ne-RUN c = unfit c.if-run-ne-RUN.true refl
 
 pub returns : goal.returns
 returns c =
-    tells record_rules held_request _ _ _ c.read_record-r.result c.if-run-ne-RUN.false c.read_record-r.ensures c.numbers.ensures
+    tells record_rules held_request _ _ _ c.read_record.result c.if-run-ne-RUN.false c.read_record.ensures c.numbers.ensures

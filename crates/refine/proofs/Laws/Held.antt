@@ -9,6 +9,7 @@ use mathlib.Core.List.{List, [], ◌∷◌, ◌++◌}
 use Prim.Native.Nat.{ℕ, ◌*◌, ◌≤◌}
 use native.Mathlib.Omega.{arith}
 use lib.Dec.{ltb, eqb}
+use lib.Seq.{length-take-le}
 use lib.ListN.{length, take, drop, take-append-drop, length-replicate}
 use borrow.Author.Tests.{ltb-false, eqb-true, eq-eqb}
 use Rattle.text.specs.Json.{Json}
@@ -22,11 +23,12 @@ use Rattle.syntax.specs.RecordLayout.{request_of}
 use Rattle.decision.specs.Decision.{Found, decide}
 use Rattle.decision.specs.declared.deciding.Decision.{Decision}
 use Rattle.decision.specs.declared.deciding.Decision.TheVariants.{Denied, Allowed, Implicit}
-use Rattle.restate.proofs.Laws.Operations.{read_limits, read_valid}
+use Rattle.restate.proofs.Laws.Operations.{read_limits, read_valid, handed_within}
 use Rattle.candidates.specs.Rows.{row_numbers}
 use Rattle.rooms.specs.Rooms.{Slot, slots, none, allowed_charges, by_decision, charges, fed, met}
-use Rattle.rooms.specs.Listing.{Lists, Listable}
-use Rattle.rooms.specs.Walking.{Listed, Right, Roomy, Fed, Met}
+use Rattle.rooms.specs.Listing.{Told, Lists, Listable}
+use Rattle.rooms.specs.Walking.{Right, Roomy, Fed, Met}
+use Rattle.rooms.specs.declared.listing.Note.{Note}
 use Rattle.refine.specs.Operations.{room_numbers, is_room, holds_for, Feeds, Joins, Finishes, Done, done}
 use Rattle.refine.specs.Operations as O
 use Rattle.refine.specs.Sound.{Sound, ShortRequest, HeldSound, Holding, PolicyFeeds, PolicyJoins, PolicyFinishes}
@@ -86,7 +88,8 @@ rows_enough {p} room s e = omega (arith, few_slots s, room_size room e)
 
 -- ---- the list
 
-pub listable : {run dir : List ℕ} → HeldSound run → length dir ≡ row_numbers → Listable held entries run 0 dir 0
+pub listable : {run : List ℕ} {dir : List Note} → HeldSound run → length dir ≡ most_entries
+    → Listable held entries run 0 dir 0
 listable h n =
     record {
       thing = h.policy;
@@ -95,47 +98,47 @@ listable h n =
     }
 
 pub listed :
-    {run at dir after : List ℕ} {r : ℕ} {ss : List Slot} {fs : List Found} → Lists run at ss fs dir 0 r after
-    → length dir ≡ row_numbers → Listed run at after r ss fs
-listed {dir = dir} {after = after} {r = r} l n =
-    record {
-      notes = l.notes;
-      told = l.told;
-      lies = record {
-        behind = drop r after;
-        is = sym (take-append-drop r after) ∙ ap (λ (xs : List ℕ). xs ++ drop r after) l.is;
-        within = omega arith;
-        bounded = omega (arith, l.size, n);
-      };
-      ends = omega (arith, l.next);
-    }
+    {run at : List ℕ} {dir after : List Note} {r : ℕ} {ss : List Slot} {fs : List Found}
+    → Lists run at ss fs dir 0 r after → Told run at (take r after) ss fs
+listed {run} {at} {ss = ss} {fs = fs} l = subst (λ (xs : List Note). Told run at xs ss fs) (sym l.is) l.told
+
+-- the notes are among those that are lent
+pub listed_few :
+    {run at : List ℕ} {dir after : List Note} {r : ℕ} {p : Policy} {fs : List Found}
+    → Lists run at (slots p) fs dir 0 r after → length dir ≡ most_entries → Sound p → r ≤ length after
+listed_few l n s = omega (arith, l.next, l.size, n, few_slots s)
+
+pub listed_taken :
+    {run at : List ℕ} {dir after : List Note} {r : ℕ} {p : Policy} {fs : List Found}
+    → Lists run at (slots p) fs dir 0 r after → length dir ≡ most_entries → Sound p → r ≡ length (take r after)
+listed_taken {after = after} {r = r} l n s = sym (length-take-le r after (listed_few l n s))
 
 -- a room of the policy that lies there, with such a list
 abbrev pub roomy :
-    {run at dir after : List ℕ} (room : List ℕ) {r : ℕ} {p : Policy} {fs : List Found}
-    → Lists run at (slots p) fs dir 0 r after → length dir ≡ row_numbers → Sound p → is_room room ≡ true → Roomy run at after r room
-roomy room {p = p} {fs = fs} l n s e =
+    {run at : List ℕ} {dir after : List Note} (room : List ℕ) {r : ℕ} {p : Policy} {fs : List Found}
+    → Lists run at (slots p) fs dir 0 r after → Sound p → is_room room ≡ true → Roomy run at (take r after) room
+roomy room {p = p} {fs = fs} l s e =
     record {
       slots = slots p;
       values = fs;
-      listed = listed l n;
+      told = listed l;
       enough = rows_enough room s e;
       bounded = omega (arith, room_size room e);
     }
 
 pub feedable :
-    {run at dir after : List ℕ} (room : List ℕ) {r : ℕ} {p : Policy} {fs : List Found}
-    → Lists run at (slots p) fs dir 0 r after → length dir ≡ row_numbers → Sound p → is_room room ≡ true
-    → Right (slots p) fs → holds_for p room ≡ true → Fed run at after r room
-feedable room l n s e r f = record { roomy = roomy room l n s e; right = r; fit = f }
+    {run at : List ℕ} {dir after : List Note} (room : List ℕ) {r : ℕ} {p : Policy} {fs : List Found}
+    → Lists run at (slots p) fs dir 0 r after → Sound p → is_room room ≡ true
+    → Right (slots p) fs → holds_for p room ≡ true → Fed run at (take r after) room
+feedable room l s e r f = record { roomy = roomy room l s e; right = r; fit = f }
 
 pub meetable :
-    {run at dir after : List ℕ} (room other : List ℕ) {r : ℕ} {p : Policy} {fs : List Found}
-    → Lists run at (slots p) fs dir 0 r after → length dir ≡ row_numbers → Sound p → is_room room ≡ true
-    → is_room other ≡ true → holds_for p room ≡ true → holds_for p other ≡ true → Met run at after r room other
-meetable room other l n s e o f g =
+    {run at : List ℕ} {dir after : List Note} (room other : List ℕ) {r : ℕ} {p : Policy} {fs : List Found}
+    → Lists run at (slots p) fs dir 0 r after → Sound p → is_room room ≡ true
+    → is_room other ≡ true → holds_for p room ≡ true → holds_for p other ≡ true → Met run at (take r after) room other
+meetable room other l s e o f g =
     record {
-      roomy = roomy room l n s e;
+      roomy = roomy room l s e;
       fit = f;
       same = g;
       size = room_size other o ∙ sym (room_size room e);
@@ -237,3 +240,12 @@ module _ {policy : List ℕ} {p : Policy} (a : Says policy_rules policy (known p
   finishes_behind e (S.no_content f) = O.no_content e a f
   finishes_behind e (S.no_allow f g) = O.no_allow e a f g
   finishes_behind e (S.finishes f g h) = O.finishes e a f g h
+
+-- a result that is written is inside the output
+pub finishes_within :
+    {p : Policy} {room out after : List ℕ} {x : Outcome ℕ} → PolicyFinishes p room out x after → (n : ℕ) → x ≡ known n
+    → n ≤ length out
+finishes_within (S.no_content f) n q = not_known q
+finishes_within (S.no_allow f g) n q = not_known q
+finishes_within {out = out} {after = after} (S.finishes f g h) n q =
+    handed_within _ out (ap (λ (y : Outcome ℕ). (y, after)) (sym q) ∙ h)

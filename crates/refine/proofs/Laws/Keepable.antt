@@ -31,6 +31,7 @@ use Rattle.refined.specs.Keeping as K
 use Rattle.refine.specs.Operations.{is_room, holds_for}
 use Rattle.refine.specs.Sound.{Sound}
 use Rattle.candidates.proofs.Laws.FittingWild.{by_tests, no_wildcard, final_star, kind_is}
+use Rattle.rooms.specs.declared.listing.Handling.{Handling}
 use Rattle.rooms.proofs.Laws.Handling.{Handled, denied, alone, wild, bound, handles, Alone, Wild, Bound}
 use Rattle.rooms.proofs.Laws.Handling.{Mark, no_mark, a_mark, mark_only, made, back}
 use Rattle.rooms.proofs.Laws.HandlingRows.{kind_row, number_of, text_of_lem}
@@ -126,7 +127,7 @@ module _ (s : Slot) (xs : List ℕ) (allow : s.effect ≡ Allow) (small : Small 
   slot_writ : Writ s.entry xs
   slot_writ = by (handles s)
     where
-      by : {k : ℕ} → Handled s k → Writ s.entry xs
+      by : {k : Handling} → Handled s k → Writ s.entry xs
       by (denied d) = both_effects d
       by (alone w) = alone_writ w
       by (wild w) = wild_writ w

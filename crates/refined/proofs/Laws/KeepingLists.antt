@@ -11,6 +11,7 @@ use Rattle.syntax.specs.Policy.{Value}
 use Rattle.held.specs.Held.{held_value, held_list}
 use Rattle.held.specs.Lying.{Lies, Lying}
 use Rattle.held.proofs.Laws.Runs.{lies_next, lies_short, list_long, value_long}
+use Rattle.writing.specs.declared.sink.Sink.{Sink}
 use Rattle.writing.specs.Showing.{Adds}
 use Rattle.writing.specs.Bytes.{between, listed, entry_bytes}
 use Rattle.writing.proofs.Laws.Showing.{adds_none, adds_then, adds_as}
@@ -20,7 +21,6 @@ use Rattle.candidates.specs.Entries.{refined}
 use Rattle.candidates.specs.Rows.{row_numbers, content_of}
 use Rattle.refined.specs.Finishing.{kept_by, kept}
 use Rattle.refined.specs.Keeping.{from, Writ, WritRows, a_row, no_rows, Ready, Kept, Reaches, entries_of}
-use Rattle.refined.specs.declared.finishing.Reached.{Reached}
 use Rattle.refined.proofs.Laws.KeepingEntries.{content_none, Holding}
 
 -- ---- put behind others
@@ -39,19 +39,17 @@ listed_on f k (y ∷ ys) zs =
 
 module _ {A : Type 0} (f : A → List ℕ) where
   pub reach_none :
-      {ys : List A} {out : List ℕ} {o k : ℕ} → ys ≡ []
-      → Reaches f ys out o k (record { next = o; count = k }) out
+      {ys : List A} {u : Sink} {k : ℕ} → ys ≡ [] → Reaches f ys k k u u
   unfolding listed
-  reach_none {out = out} {o = o} {k = k} e =
+  reach_none {u = u} {k = k} e =
       record {
-        adds = adds_as (ap (listed f k) (sym e)) (adds_none out o);
+        adds = adds_as (ap (listed f k) (sym e)) (adds_none u);
         count = omega (arith, ap length e);
       }
 
   pub reach_one :
-      {ys : List A} {v : A} {out mid after : List ℕ} {o o' o'' k : ℕ} → ys ≡ v ∷ []
-      → Adds (between k) out o o' mid → Adds (f v) mid o' o'' after
-      → Reaches f ys out o k (record { next = o''; count = k + 1 }) after
+      {ys : List A} {v : A} {t u w : Sink} {k : ℕ} → ys ≡ v ∷ [] → Adds (between k) t u → Adds (f v) u w
+      → Reaches f ys k (k + 1) t w
   unfolding listed
   reach_one {v = v} {k = k} e a b =
       record {
@@ -60,16 +58,16 @@ module _ {A : Type 0} (f : A → List ℕ) where
         count = omega (arith, ap length e);
       }
 
-module _ {f : Value → List ℕ} {out : List ℕ} {o k : ℕ} where
+module _ {f : Value → List ℕ} {t : Sink} {k : ℕ} where
   pub reaches_none :
       (xs : List ℕ) (x : Value) → get_or xs 0 0 ≡ 0
-      → Reaches f (kept_by (content_of xs) x []) out o k (record { next = o; count = k }) out
+      → Reaches f (kept_by (content_of xs) x []) k k t t
   reaches_none xs x e = reach_none f (ap (λ (c : Content). kept_by c x []) (content_none xs e))
 
   pub reaches_held :
-      {run xs mid after : List ℕ} {e o' o'' : ℕ} {x : Value} (y : Holding run e xs x) → Adds (between k) out o o' mid
-      → Adds (f (refined y.held.entry y.held.candidate)) mid o' o'' after
-      → Reaches f (kept_by (content_of xs) x []) out o k (record { next = o''; count = k + 1 }) after
+      {run xs : List ℕ} {u w : Sink} {e : ℕ} {x : Value} (y : Holding run e xs x) → Adds (between k) t u
+      → Adds (f (refined y.held.entry y.held.candidate)) u w
+      → Reaches f (kept_by (content_of xs) x []) k (k + 1) t w
   reaches_held {x = x} y a b =
       let c = y.held.candidate in
       reach_one f
@@ -81,10 +79,9 @@ told f g s xs = listed f s.0 (g s.1 xs)
 
 module _ {A B : Type 0} {h : A → List ℕ} (f : B → List ℕ) (g : ℕ → List A → List B) (P : ℕ × ℕ → List A → Type 0) where
   pub reached_piece :
-      {run total out₀ out after : List ℕ} {o₀ n i p k j o q j' : ℕ} {r : Reached} {ys : List B}
-      (w : Telling h (told f g) P run total out₀ o₀ n i p (k, j) out o) (x : A) (xs : List A) → q ≡ p + length (h x)
-      → Reaches f ys out o k r after → g j (x ∷ xs) ≡ ys ++ g j' xs → P (r.count, j') xs
-      → Piece w x xs q (r.count, j') after r.next
+      {run total : List ℕ} {s₀ s t : Sink} {n i p k j q j' r : ℕ} {ys : List B}
+      (w : Telling h (told f g) P run total s₀ n i p (k, j) s) (x : A) (xs : List A) → q ≡ p + length (h x)
+      → Reaches f ys k r s t → g j (x ∷ xs) ≡ ys ++ g j' xs → P (r, j') xs → Piece w x xs q (r, j') t
   reached_piece {k = k} {j' = j'} {r = r} {ys = ys} w x xs far y e v =
       record {
         far = far;
@@ -107,8 +104,8 @@ pub turn_lying :
 turn_lying y = record { thing = y.head; lies = y.lies }
 
 pub turn :
-    {A S : Type 0} {h : A → List ℕ} {t : S → List A → List ℕ} {P : S → List A → Type 0} {run total out₀ out : List ℕ}
-    {o₀ n i p o : ℕ} {s : S} → Telling h t P run total out₀ o₀ n i p s out o → i < n → Turn h (P s) run p
+    {A S : Type 0} {h : A → List ℕ} {t : S → List A → List ℕ} {P : S → List A → Type 0} {run total : List ℕ}
+    {u₀ u : Sink} {n i p : ℕ} {s : S} → Telling h t P run total u₀ n i p s u → i < n → Turn h (P s) run p
 turn w k = let y = telling_now w k in record { head = y.head; tail = y.tail; lies = y.lies; known = y.known }
 
 -- ---- rows one behind the other
@@ -189,10 +186,10 @@ waiting_start y =
       few = omega (arith, list_long held_value value_long y.thing, lies_short (lies_next y.lies));
     }
 
-module _ {t : ℕ × ℕ → List Value → List ℕ} {run room out₀ out : List ℕ} {at s o₀ i e k j o : ℕ}
+module _ {t : ℕ × ℕ → List Value → List ℕ} {run room : List ℕ} {u₀ u : Sink} {at s i e k j : ℕ}
     (y : Kept (held_list held_value) entries_of run at room s)
-    (w : Tellings held_value t (Waiting room) (0, s) run (at + 1) out₀ o₀ (get_or run at 0) i e (k, j) out o) where
-  pub kept_told : Telling held_value t (Waiting room) run (t (0, s) y.thing) out₀ o₀ (get_or run at 0) i e (k, j) out o
+    (w : Tellings held_value t (Waiting room) (0, s) run (at + 1) u₀ (get_or run at 0) i e (k, j) u) where
+  pub kept_told : Telling held_value t (Waiting room) run (t (0, s) y.thing) u₀ (get_or run at 0) i e (k, j) u
   kept_told = list_told y.thing y.lies (waiting_start y) w
 
   pub kept_turn : i < get_or run at 0 → Turn held_value (Waiting room (k, j)) run e
@@ -234,11 +231,10 @@ module _ {room : List ℕ} {k j : ℕ} {x : Value} {xs : List Value} (v : Waitin
       apart (holds d) zs = refl
 
   pub kept_piece :
-      (kind : ℕ) {run total out₀ out after : List ℕ} {o₀ n i p o q : ℕ} {r : Reached}
-      (w : Telling held_value (tell_kept kind room) (Waiting room) run total out₀ o₀ n i p (k, j) out o)
+      (kind : ℕ) {run total : List ℕ} {u₀ u t : Sink} {n i p q r : ℕ}
+      (w : Telling held_value (tell_kept kind room) (Waiting room) run total u₀ n i p (k, j) u)
       → q ≡ p + length (held_value x)
-      → Reaches (entry_bytes kind) (kept_by (content_of (cut room j)) x []) out o k r after
-      → Piece w x xs q (r.count, j + 1) after r.next
+      → Reaches (entry_bytes kind) (kept_by (content_of (cut room j)) x []) k r u t → Piece w x xs q (r, j + 1) t
   kept_piece kind {r = r} w far y =
       reached_piece (entry_bytes kind) (kept_from room) (Waiting room) w x xs far y kept_next
-      (waiting_next (content_of (cut room j)) r.count y.count)
+      (waiting_next (content_of (cut room j)) r y.count)

@@ -22,7 +22,7 @@ use Rattle.refined.specs.Finishing.{behind, is_whole, kept_statement, left_by, r
 use Rattle.rooms.specs.Rooms.{statement_slots}
 use Rattle.refined.specs.Keeping.{from, WritRows, WritPolicy, an_allow, a_deny, Reaches, statement_values}
 use Rattle.refined.specs.Keeping.{policy_values, KeptPolicy}
-use Rattle.refined.specs.declared.finishing.Reached.{Reached}
+use Rattle.writing.specs.declared.sink.Sink.{Sink}
 use Rattle.refined.proofs.Laws.KeepingLists.{from_on, Turn, turn, told, reached_piece}
 use Rattle.refined.proofs.Laws.KeepingTests.{Lookings, list_looked, looking_many}
 use Rattle.refined.proofs.Laws.KeepingStatements.{statement_many, statement_slots_lem}
@@ -127,10 +127,10 @@ pub ready_start :
     → WritPolicy p room → PolicyReady room (0, 0) p
 ready_start p l h w = record { enough = omega (arith, h); writ = w; few = omega (arith, policy_few p l) }
 
-module _ {t : ℕ × ℕ → Policy → List ℕ} {run room out₀ out : List ℕ} {o₀ i p k s o : ℕ} (y : KeptPolicy run room)
-    (w : Tellings held_statement t (PolicyReady room) (0, 0) run 1 out₀ o₀ (get_or run 0 0) i p (k, s) out o) where
+module _ {t : ℕ × ℕ → Policy → List ℕ} {run room : List ℕ} {u₀ u : Sink} {i p k s : ℕ} (y : KeptPolicy run room)
+    (w : Tellings held_statement t (PolicyReady room) (0, 0) run 1 u₀ (get_or run 0 0) i p (k, s) u) where
   pub policy_told :
-      Telling held_statement t (PolicyReady room) run (t (0, 0) y.policy) out₀ o₀ (get_or run 0 0) i p (k, s) out o
+      Telling held_statement t (PolicyReady room) run (t (0, 0) y.policy) u₀ (get_or run 0 0) i p (k, s) u
   policy_told =
       list_told y.policy (policy_lies y.policy y.lies)
       (ready_start y.policy y.lies y.enough y.writ) w
@@ -183,11 +183,11 @@ module _ {room : List ℕ} {k s : ℕ} {x : Statement} {xs : Policy} (v : Policy
         }
 
     pub left_piece :
-        {run total out₀ out after : List ℕ} {o₀ n i p o q : ℕ} {r : Reached}
-        (w : Telling held_statement (tell_left room) (PolicyReady room) run total out₀ o₀ n i p (k, s) out o)
-        → q ≡ p + length (held_statement x) → Reaches statement_bytes (left_by x (from room s) []) out o k r after
-        → Piece w x xs q (r.count, s + m) after r.next
+        {run total : List ℕ} {u₀ u t : Sink} {n i p q r : ℕ}
+        (w : Telling held_statement (tell_left room) (PolicyReady room) run total u₀ n i p (k, s) u)
+        → q ≡ p + length (held_statement x) → Reaches statement_bytes (left_by x (from room s) []) k r u t
+        → Piece w x xs q (r, s + m) t
     left_piece {r = r} w far y =
         reached_piece statement_bytes (left_from room) (PolicyReady room) w x xs far y
         (refined_first room s x e xs ∙ left_apart x (from room s) (left_from room (s + m) xs))
-        (left_next r.count y.count)
+        (left_next r y.count)

@@ -7,6 +7,7 @@ use lib.ListN.{length, get_or, drop}
 use Rattle.chars.specs.Written.{written_text}
 use Rattle.syntax.specs.Policy.{Row}
 use Rattle.held.specs.Held.{held_list, held_row, operator_number}
+use Rattle.writing.specs.declared.sink.Sink.{Sink}
 use Rattle.writing.specs.Showing.{Adds}
 use Rattle.writing.specs.Bytes.{name, list_bytes, turning, row_bytes, rows_from}
 use Rattle.writing.proofs.Laws.Showing.{adds_as, adds_then}
@@ -24,9 +25,8 @@ kept_rows_many (x ∷ xs) ns = omega (arith, kept_rows_many xs (behind x.entries
 -- ---- put one behind the other
 
 pub row_adds :
-    (r : Row) {out mid after : List ℕ} {k o o' o'' : ℕ} → k ≡ operator_number r.operator
-    → Adds (name (written_text r.key)) out o o' mid → Adds (list_bytes k r.entries) mid o' o'' after
-    → Adds (row_bytes r) out o o'' after
+    (r : Row) {t u w : Sink} {k : ℕ} → k ≡ operator_number r.operator → Adds (name (written_text r.key)) t u
+    → Adds (list_bytes k r.entries) u w → Adds (row_bytes r) t w
 unfolding row_bytes
 row_adds r e a b = adds_then a (adds_as (ap (λ (k : ℕ). list_bytes k r.entries) e) b)
 
@@ -37,10 +37,10 @@ tell_rows room s xs = rows_from s.0 (kept_rows xs (from room s.1))
 pub record RowsReady (room : List ℕ) (s : ℕ × ℕ) (xs : List Row) : Type 0 where
   pub ready : Ready room s.1 (row_values xs)
 
-module _ {t : ℕ × ℕ → List Row → List ℕ} {run room out₀ out : List ℕ} {at s o₀ i p k a o : ℕ}
+module _ {t : ℕ × ℕ → List Row → List ℕ} {run room : List ℕ} {u₀ u : Sink} {at s i p k a : ℕ}
     (y : Kept (held_list held_row) row_values run at room s)
-    (w : Tellings held_row t (RowsReady room) (0, s) run (at + 1) out₀ o₀ (get_or run at 0) i p (k, a) out o) where
-  pub rows_told : Telling held_row t (RowsReady room) run (t (0, s) y.thing) out₀ o₀ (get_or run at 0) i p (k, a) out o
+    (w : Tellings held_row t (RowsReady room) (0, s) run (at + 1) u₀ (get_or run at 0) i p (k, a) u) where
+  pub rows_told : Telling held_row t (RowsReady room) run (t (0, s) y.thing) u₀ (get_or run at 0) i p (k, a) u
   rows_told = list_told y.thing y.lies (record { ready = y.ready }) w
 
   pub rows_turn : i < get_or run at 0 → Turn held_row (RowsReady room (k, a)) run p
@@ -58,11 +58,10 @@ module _ {room : List ℕ} {k a : ℕ} {x : Row} {xs : List Row} (v : RowsReady 
   row_few e = omega (arith, row_ready.enough, e)
 
   pub kept_row_piece :
-      {run total out₀ out mid after : List ℕ} {o₀ n i p o o' o'' q k' m : ℕ}
-      (w : Telling held_row (tell_rows room) (RowsReady room) run total out₀ o₀ n i p (k, a) out o)
+      {run total : List ℕ} {u₀ u t z : Sink} {n i p q k' m : ℕ}
+      (w : Telling held_row (tell_rows room) (RowsReady room) run total u₀ n i p (k, a) u)
       → q ≡ p + length (held_row x) → k' ≡ operator_number x.operator → m ≡ length x.entries
-      → Adds (turning k k') out o o' mid → Adds (row_bytes (kept_row x (from room a))) mid o' o'' after
-      → Piece w x xs q (k', a + m) after o''
+      → Adds (turning k k') u t → Adds (row_bytes (kept_row x (from room a))) t z → Piece w x xs q (k', a + m) z
   unfolding rows_from kept_rows
   kept_row_piece {k' = k'} {m = m} w far g e b c =
       let r = row_bytes (kept_row x (from room a)) in

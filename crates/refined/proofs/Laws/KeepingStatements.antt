@@ -12,6 +12,7 @@ use Rattle.syntax.specs.Words.{resource_word}
 use Rattle.held.specs.declared.runs.Seen.{Seen}
 use Rattle.held.proofs.Laws.RunsStatement.{ListPassed}
 use Rattle.held.proofs.Laws.Parts.{BehindLabel, texts_values, actions_lie, resources_lie, rows_lie}
+use Rattle.writing.specs.declared.sink.Sink.{Sink}
 use Rattle.writing.specs.Showing.{Adds}
 use Rattle.writing.specs.Bytes.{list_bytes, condition_bytes, head_bytes, statement_bytes, name}
 use Rattle.writing.proofs.Laws.Showing.{adds_as, adds_then}
@@ -244,13 +245,12 @@ texts_kept (x ∷ xs) {ns} w =
 module _ {run room : List ℕ} {p s a : ℕ} (y : Kept held_statement statement_values run p room s)
     (far : BehindLabel run p a) {b c : Seen} (at_b : ListPassed run a b) (at_c : ListPassed run b.past c) where
   pub statement_adds :
-      {out b₁ b₂ b₃ b₄ b₅ after : List ℕ} {o o₁ o₂ o₃ o₄ o₅ last : ℕ} → Adds (head_bytes y.thing) out o o₁ b₁
-      → Adds (list_bytes 0 (kept (action_values y.thing) (from room s))) b₁ o₁ o₂ b₂
-      → Adds (44 ∷ name resource_word) b₂ o₂ o₃ b₃
-      → Adds (list_bytes 2 (kept (resource_values y.thing) (from room (s + b.entries)))) b₃ o₃ o₄ b₄
-      → Adds (condition_bytes (kept_rows y.thing.rows (from room (s + b.entries + c.entries)))) b₄ o₄ o₅ b₅
-      → Adds (125 ∷ []) b₅ o₅ last after → Adds (statement_bytes (kept_statement y.thing (from room s))) out o last
-      after
+      {u u₁ u₂ u₃ u₄ u₅ u₆ : Sink} → Adds (head_bytes y.thing) u u₁
+      → Adds (list_bytes 0 (kept (action_values y.thing) (from room s))) u₁ u₂
+      → Adds (44 ∷ name resource_word) u₂ u₃
+      → Adds (list_bytes 2 (kept (resource_values y.thing) (from room (s + b.entries)))) u₃ u₄
+      → Adds (condition_bytes (kept_rows y.thing.rows (from room (s + b.entries + c.entries)))) u₄ u₅
+      → Adds (125 ∷ []) u₅ u₆ → Adds (statement_bytes (kept_statement y.thing (from room s))) u u₆
   unfolding statement_bytes kept_statement head_bytes
   statement_adds head actions resource resources rows close =
       let x = y.thing in

@@ -1,16 +1,17 @@
 -- A result handed out, or refused.
-use mathlib.Core.Path.{◌≡◌, refl, sym, ap, ◌∙◌}
-use mathlib.Core.List.{List, []}
+use mathlib.Core.Path.{◌≡◌, refl, ap, subst}
+use mathlib.Core.List.{List, [], ◌∷◌, ◌++◌}
 use Prim.Native.Nat.{ℕ, ◌≤◌, ◌<◌}
 use native.Mathlib.Omega.{arith}
-use lib.ListN.{length, take}
+use lib.ListN.{length, drop}
 use borrow.Author.Tests.{lt-ltb, le-ltb}
 use Rattle.chars.specs.Putting.{lay}
 use Rattle.syntax.specs.Limits.{result_bytes}
 use Rattle.policy.specs.Reading.{refused, known}
 use Rattle.policy.specs.declared.refusals.Refusal.TheVariants.{ResultLength, OutputLength}
-use Rattle.writing.specs.Showing.{Shows, Adds}
-use Rattle.writing.proofs.Laws.Showing.{shows_none, shows_end, shows_over}
+use Rattle.writing.specs.declared.sink.Sink.{Sink}
+use Rattle.writing.specs.Showing.{Shows, Adds, Gives, size}
+use Rattle.std.proofs.Common.{Option, Some, None, MatchOption, IfSome, Bor}
 use Rattle.restate.specs.Operations.{handed}
 
 module _ (bs out : List ℕ) where
@@ -26,23 +27,30 @@ module _ (bs out : List ℕ) where
   unfolding handed
   handed_whole h k = rw (le-ltb result_bytes (length bs) h, le-ltb (length out) (length bs) k) refl
 
--- what stands in a room that took the bytes
-pub shows_taken : {w room after : List ℕ} {n : ℕ} → Adds w room 0 n after → length room ≤ result_bytes → Shows w n after
-shows_taken {room = room} a size = a.adds [] (shows_none room size)
+-- what a sink shows that took the bytes
+pub shows_taken : {ws : List ℕ} {s t : Sink} → Shows [] s → Adds ws s t → Shows ws t
+shows_taken e a = a.adds [] e
 
-module _ {w room : List ℕ} {n : ℕ} (out : List ℕ) (shows : Shows w n room) where
-  pub hand_long : length room ≡ result_bytes → result_bytes < n → (refused ResultLength, out) ≡ handed w out
-  hand_long size h = handed_long w out (shows_over size shows h)
+-- bytes that are laid over the beginning
+pub laid : (bs out : List ℕ) → length bs ≤ length out → bs ++ drop (length bs) out ≡ lay bs out
+unfolding lay
+laid [] out h = refl
+laid (b ∷ bs) [] h = absurd (omega arith)
+laid (b ∷ bs) (o ∷ out) h = ap (λ (l : List ℕ). b ∷ l) (laid bs out (omega arith))
 
-  module _ (h : n ≤ result_bytes) where
-    abbrev length_is : length w ≡ n
-    length_is = (shows_end shows h).0
+module _ {ws : List ℕ} {s : Sink} {r : Option (Bor (List ℕ))} (out : List ℕ) (shows : Shows ws s) (g : Gives s r) where
+  pub hand_long : size s ≡ result_bytes → r ≡ None → (refused ResultLength, out) ≡ handed ws out
+  hand_long room e =
+      let m : MatchOption None (length s.room.now < length ws) (λ (bs : Bor (List ℕ)). bs.now ≡ ws) =
+      subst (λ (o : Option (Bor (List ℕ))). MatchOption o (length s.room.now < length ws) (λ (bs : Bor (List ℕ)). bs.now ≡ ws))
+      e (g.shown ws shows) in
+      handed_long ws out (omega (arith, room, m))
 
-    pub hand_short : length out < n → (refused OutputLength, out) ≡ handed w out
-    hand_short k = handed_short w out (omega (arith, length_is)) (omega (arith, length_is))
+  pub given_is : {bs : Bor (List ℕ)} → r ≡ Some bs → bs.now ≡ ws
+  given_is {bs} e =
+      subst (λ (o : Option (Bor (List ℕ))). MatchOption o (length s.room.now < length ws) (λ (cs : Bor (List ℕ)). cs.now ≡ ws))
+      e (g.shown ws shows)
 
-    pub hand_whole : {exit : List ℕ} → n ≤ length out → exit ≡ lay (take n room) out → (known n, exit) ≡ handed w out
-    hand_whole {exit} k e =
-        let f : exit ≡ lay w out = e ∙ ap (λ (l : List ℕ). lay l out) (shows_end shows h).1 in
-        ap (λ (m : ℕ). (known m, exit)) (sym length_is) ∙ ap (λ (l : List ℕ). (known (length w), l)) f
-        ∙ handed_whole w out (omega (arith, length_is)) (omega (arith, length_is))
+pub given_fits : {s : Sink} {r : Option (Bor (List ℕ))} {bs : Bor (List ℕ)} → Gives s r → r ≡ Some bs → length bs.now ≤ size s
+given_fits {s} {bs = bs} g e =
+    subst (λ (o : Option (Bor (List ℕ))). IfSome o (λ (cs : Bor (List ℕ)). length cs.now ≤ length s.room.now)) e g.fits

@@ -71,6 +71,7 @@ never e = let y : ◌≡◌ {A = ℕ} 0 1 = cc in absurd (omega arith)
 -- what a written result is
 record Whole (bs out : List ℕ) (n : ℕ) (after : List ℕ) : Type 0 where
   short : length bs ≤ result_bytes
+  within : n ≤ length out
   is : take n after ≡ bs
 
 module _ (bs out : List ℕ) where
@@ -105,9 +106,16 @@ handed_is bs out {n} {after} e = by (dec_lt result_bytes (length bs)) (dec_lt (l
         let i : n ≡ length bs = cc in
         record {
           short = omega arith;
+          within = omega arith;
           is = ap (λ (m : ℕ). take m after) i
               ∙ ap (λ (r : Outcome ℕ × List ℕ). take (length bs) r.1) f ∙ lay_take bs out (omega arith);
         }
+
+-- and it is inside the output
+pub handed_within :
+    (bs out : List ℕ) {n : ℕ} {after : List ℕ} → ◌≡◌ {A = Outcome ℕ × List ℕ} (known n, after) (handed bs out)
+    → n ≤ length out
+handed_within bs out e = (handed_is bs out e).within
 
 kept : {policy out after : List ℕ} {x : Outcome ℕ} (f : Refusal) → Restates policy out x after → x ≡ refused f → after
     ≡ out

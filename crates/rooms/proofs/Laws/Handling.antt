@@ -1,10 +1,11 @@
--- What the row of a slot can hold, by the number that the list of entries has for the slot.
---   as_denied, as_alone, as_wild, as_bound    the slot, by that number
+-- What the row of a slot can hold, by how the note of the slot handles it.
+--   as_denied, as_alone, as_wild, as_bound    the slot, by that handling
 --   textual-row, numbered-row    what a row that fits holds
 --   fits-.., fed-.., met-..      one row tested, charged and joined, in each case
 use mathlib.Core.Path.{◌≡◌, refl, sym, ap, ◌∙◌, subst}
 use mathlib.Core.Bool.{Bool, true, false}
 use mathlib.Core.List.{List, [], ◌∷◌}
+use mathlib.Core.Logic.{◌⊎◌, inl, inr}
 use Prim.Native.Nat.{ℕ, ◌-◌, ◌≤◌}
 use native.Mathlib.Omega.{arith}
 use lib.Dec.{leb}
@@ -29,6 +30,9 @@ use Rattle.candidates.specs.Joining.{Textual, no_text, whole_text, single_text, 
 use Rattle.candidates.specs.Joining.{one_number}
 use Rattle.rooms.specs.Rooms.{Slot, slot_kind, row_fits}
 use Rattle.rooms.specs.Listing.{handling, handling_by, SlotAt}
+use Rattle.rooms.specs.declared.listing.Handling.{Handling}
+use Rattle.rooms.specs.declared.listing.Handling.TheVariants as H
+use Rattle.rooms.specs.declared.listing.Note.{Note}
 use Rattle.candidates.proofs.Laws.ChargingLeast.{longest_never}
 use Rattle.candidates.proofs.Laws.FittingWild.{number_not}
 
@@ -53,11 +57,11 @@ pub record Bound (s : Slot) : Type 0 where
   pub kind : slot_kind s ≡ bounds leb most
   pub numeric : comparison s.place ≡ NumericLessThanEquals
 
-pub data Handled (s : Slot) : ℕ → Type 0 where
-  denied : s.effect ≡ Deny → Handled s 0
-  alone : Alone s → Handled s 1
-  wild : Wild s → Handled s 2
-  bound : Bound s → Handled s 3
+pub data Handled (s : Slot) : Handling → Type 0 where
+  denied : s.effect ≡ Deny → Handled s H.Nothing
+  alone : Alone s → Handled s H.Itself
+  wild : Wild s → Handled s H.Wild
+  bound : Bound s → Handled s H.Number
 
 handled : (e : Effect) (p : Place) (x : Value)
     → Handled (record { effect = e; place = p; entry = x }) (handling_by e (comparison p) x)
@@ -91,66 +95,72 @@ pub data Marked (s : Slot) : Type 0 where
 both_effects : {A : Type 0} {e : Effect} → e ≡ Allow → e ≡ Deny → A
 both_effects a d = let y : ◌≡◌ {A = ℕ} 0 1 = cc in absurd (omega arith)
 
-module _ {run : List ℕ} {h p e : ℕ} {s : Slot} (a : SlotAt run h p e s) where
-  pub as_denied : h ≡ 0 → s.effect ≡ Deny
+module _ {run : List ℕ} {x : Note} {s : Slot} (a : SlotAt run x s) where
+  pub as_denied : x.handling ≡ H.Nothing → s.effect ≡ Deny
   as_denied z = by (handling s) (handles s) (sym a.handles ∙ z)
     where
-      by : (k : ℕ) → Handled s k → k ≡ 0 → s.effect ≡ Deny
+      by : (k : Handling) → Handled s k → k ≡ H.Nothing → s.effect ≡ Deny
       by k (denied d) y = d
-      by k (alone w) y = absurd (omega (arith, y))
-      by k (wild w) y = absurd (omega (arith, y))
-      by k (bound w) y = absurd (omega (arith, y))
+      by k (alone w) y = cc
+      by k (wild w) y = cc
+      by k (bound w) y = cc
 
-  pub as_alone : h ≡ 1 → Alone s
+  pub as_alone : x.handling ≡ H.Itself → Alone s
   as_alone z = by (handling s) (handles s) (sym a.handles ∙ z)
     where
-      by : (k : ℕ) → Handled s k → k ≡ 1 → Alone s
-      by k (denied d) y = absurd (omega (arith, y))
+      by : (k : Handling) → Handled s k → k ≡ H.Itself → Alone s
+      by k (denied d) y = absurd (cc)
       by k (alone w) y = w
-      by k (wild w) y = absurd (omega (arith, y))
-      by k (bound w) y = absurd (omega (arith, y))
+      by k (wild w) y = absurd (cc)
+      by k (bound w) y = absurd (cc)
 
-  pub as_bound : h ≡ 3 → Bound s
+  pub as_bound : x.handling ≡ H.Number → Bound s
   as_bound z = by (handling s) (handles s) (sym a.handles ∙ z)
     where
-      by : (k : ℕ) → Handled s k → k ≡ 3 → Bound s
-      by k (denied d) y = absurd (omega (arith, y))
-      by k (alone w) y = absurd (omega (arith, y))
-      by k (wild w) y = absurd (omega (arith, y))
+      by : (k : Handling) → Handled s k → k ≡ H.Number → Bound s
+      by k (denied d) y = absurd (cc)
+      by k (alone w) y = absurd (cc)
+      by k (wild w) y = absurd (cc)
       by k (bound w) y = w
 
-  pub as_wild : (h ≡ 0 → ⊥) → (h ≡ 1 → ⊥) → (h ≡ 3 → ⊥) → Wild s
-  as_wild f g j = by (handling s) (handles s) a.handles
+  pub as_wild : x.handling ≡ H.Wild → Wild s
+  as_wild z = by (handling s) (handles s) (sym a.handles ∙ z)
     where
-      by : (k : ℕ) → Handled s k → h ≡ k → Wild s
-      by k (denied d) y = absurd (f y)
-      by k (alone w) y = absurd (g y)
+      by : (k : Handling) → Handled s k → k ≡ H.Wild → Wild s
+      by k (denied d) y = absurd (cc)
+      by k (alone w) y = absurd (cc)
       by k (wild w) y = w
-      by k (bound w) y = absurd (j y)
+      by k (bound w) y = absurd (cc)
 
-  pub as_marked : (h ≡ 3 → ⊥) → (h ≡ 2 → ⊥) → Marked s
-  as_marked f g = by (handling s) (handles s) a.handles
-    where
-      by : (k : ℕ) → Handled s k → h ≡ k → Marked s
-      by k (denied d) y = never_any d
-      by k (alone w) y = itself_only w
-      by k (wild w) y = absurd (g y)
-      by k (bound w) y = absurd (f y)
-
-  pub is_wild : h ≡ 2 → Wild s
-  is_wild z =
-      as_wild (λ y. absurd (omega (arith, z, y))) (λ y. absurd (omega (arith, z, y)))
-      (λ y. absurd (omega (arith, z, y)))
+  pub as_marked : (x.handling ≡ H.Nothing) ⊎ (x.handling ≡ H.Itself) → Marked s
+  as_marked (inl z) = never_any (as_denied z)
+  as_marked (inr z) = itself_only (as_alone z)
 
   -- no other case is left for an Allow entry
-  pub not_denied : s.effect ≡ Allow → h ≡ 0 → ⊥
+  pub not_denied : s.effect ≡ Allow → x.handling ≡ H.Nothing → ⊥
   not_denied o z = both_effects o (as_denied z)
 
-  pub bound_lies : (b : Bound s) → Lies run e (held_number b.most)
-  bound_lies b = subst (λ (x : Value). Lies run e (held_value x)) b.is a.lies
+  pub bound_lies : (b : Bound s) → Lies run x.entry (held_number b.most)
+  bound_lies b = subst (λ (y : Value). Lies run x.entry (held_value y)) b.is a.lies
 
-  pub wild_texted : (w : Wild s) → Texted run e w.symbols
-  wild_texted w = texted w.symbols (subst (λ (x : Value). Lies run e (held_value x)) w.is a.lies)
+  pub wild_texted : (w : Wild s) → Texted run x.entry w.symbols
+  wild_texted w = texted w.symbols (subst (λ (y : Value). Lies run x.entry (held_value y)) w.is a.lies)
+
+-- ---- in the list that it stands in
+
+pub charged_at :
+    {p q : Place} {out : List ℕ} (ys : List ℕ) (c : Content) (v : Value) → p ≡ q
+    → out ≡ row (charged (wild_kind p ys) c v) → out ≡ row (charged (wild_kind q ys) c v)
+charged_at ys c v e f = f ∙ ap (λ (p : Place). row (charged (wild_kind p ys) c v)) e
+
+pub joined_at :
+    {p q : Place} {out : List ℕ} (ys : List ℕ) (c d : Content) → p ≡ q
+    → out ≡ row (joined (wild_kind p ys) c d) → out ≡ row (joined (wild_kind q ys) c d)
+joined_at ys c d e f = f ∙ ap (λ (p : Place). row (joined (wild_kind p ys) c d)) e
+
+pub fits_at : {p q : Place} {b : Bool} (ys xs : List ℕ) → p ≡ q → b ≡ is_row (wild_kind p ys) xs
+    → b ≡ is_row (wild_kind q ys) xs
+fits_at ys xs e f = f ∙ ap (λ (p : Place). is_row (wild_kind p ys) xs) e
 
 -- ---- tested
 

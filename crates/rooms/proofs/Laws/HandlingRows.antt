@@ -2,6 +2,7 @@
 use mathlib.Core.Path.{◌≡◌, refl, sym, ap, ◌∙◌, subst}
 use mathlib.Core.Bool.{Bool, true, false}
 use mathlib.Core.List.{List, [], ◌∷◌}
+use mathlib.Core.Logic.{◌⊎◌}
 use Prim.Native.Nat.{ℕ, ◌≤◌}
 use native.Mathlib.Omega.{arith}
 use lib.Dec.{eqb, leb}
@@ -22,6 +23,8 @@ use Rattle.candidates.specs.Rows.{row_numbers, padded, row, content_of, is_row, 
 use Rattle.candidates.specs.Joining.{Texted as TextedRow, Numbered}
 use Rattle.rooms.specs.Rooms.{Slot, slot_kind, row_fits, row_fed, row_met}
 use Rattle.rooms.specs.Listing.{SlotAt}
+use Rattle.rooms.specs.declared.listing.Handling.TheVariants as H
+use Rattle.rooms.specs.declared.listing.Note.{Note}
 use Rattle.rooms.specs.Walking.{Chargeable, Short}
 use Rattle.candidates.proofs.Laws.ChargingLeast.{mark_row}
 use Rattle.candidates.proofs.Laws.Fitting.{row_zero}
@@ -156,9 +159,9 @@ module _ (s : Slot) (xs ys : List ℕ) (f : row_fits s xs ≡ true) (g : row_fit
       (content_of xs)))
 
   -- a Deny entry has no mark
-  pub met_marked : {run : List ℕ} {h p e : ℕ} (a : SlotAt run h p e s) → (h ≡ 3 → ⊥) → (h ≡ 2 → ⊥)
+  pub met_marked : {run : List ℕ} {x : Note} (a : SlotAt run x s) → (x.handling ≡ H.Nothing) ⊎ (x.handling ≡ H.Itself)
       → (get_or ys 0 0 ≡ 0 → ⊥) → {out : List ℕ} → out ≡ padded (1 ∷ []) → out ≡ row_met s xs ys
-  met_marked a t w n {out} o = by (as_marked a t w)
+  met_marked a w n {out} o = by (as_marked a w)
     where
       by : Marked s → out ≡ row_met s xs ys
       by (never_any d) = absurd (n (zero_first ys (fits_denied s ys d ∙ g)))

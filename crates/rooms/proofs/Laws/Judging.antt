@@ -20,6 +20,7 @@ use Rattle.decision.proofs.Laws.DecidingOrder.{told, told_all, told_passed, told
 use Rattle.decision.proofs.Laws.DecidingOrder.{left_implicit}
 use Rattle.rooms.specs.Rooms.{statement_slots, statement_hits, none, statement_charges, allowed_charges}
 use Rattle.rooms.specs.Listing.{ListsTo, Listable, denying, Judges}
+use Rattle.rooms.specs.declared.listing.Note.{Note}
 use Rattle.rooms.specs.declared.listing.Noted.{Noted}
 use Rattle.rooms.proofs.Laws.ListingWalk.{lists_charged}
 use Rattle.rooms.proofs.Laws.ListingStatement.{charges_are}
@@ -54,13 +55,13 @@ module _ (a i : ℕ) (s : Statement) (p : Policy) (q : Request) {holds : Bool} (
 
 -- ---- the walk
 
-pub record Judging (x : Policy) (q : Request) (run at dir₀ : List ℕ) (n i p : ℕ) (dir : List ℕ) (o allowed : ℕ)
+pub record Judging (x : Policy) (q : Request) (run at : List ℕ) (dir₀ : List Note) (n i p : ℕ) (dir : List Note) (o allowed : ℕ)
     : Type 0 where
   pub walk : StatementsWalk (λ s. allowed_charges s q) x run at dir₀ n i p dir o
   pub decides : Coming held_statement run n i p (told allowed (i + 1) q) (decide x q)
 
 pub judging_start :
-    {run at dir : List ℕ} (x : Policy) (q : Request) → Lies run 0 (held x)
+    {run at : List ℕ} {dir : List Note} (x : Policy) (q : Request) → Lies run 0 (held x)
     → Judging x q run at dir (get_or run 0 0) 0 1 dir 0 0
 judging_start {run} {at} {dir} x q l =
     record {
@@ -69,7 +70,7 @@ judging_start {run} {at} {dir} x q l =
           (coming x (policy_count x l) (policy_lies x l));
     }
 
-module _ {x : Policy} {q : Request} {run at dir₀ dir : List ℕ} {n i p o allowed : ℕ}
+module _ {x : Policy} {q : Request} {run at : List ℕ} {dir₀ dir : List Note} {n i p o allowed : ℕ}
     (w : Judging x q run at dir₀ n i p dir o allowed) where
   -- by what is told of the statement there
   module _ (t : i < n) {holds denies : Bool}
@@ -90,7 +91,7 @@ module _ {x : Policy} {q : Request} {run at dir₀ dir : List ℕ} {n i p o allo
         denied_allowed z = let y : ◌≡◌ {A = ℕ} 0 1 = cc in omega arith
 
     pub judging_next :
-        {b : ℕ} {after : List ℕ} {g : Noted} → denies ≡ false → b ≡ or_else allowed (pick holds (i + 1) 0)
+        {b : ℕ} {after : List Note} {g : Noted} → denies ≡ false → b ≡ or_else allowed (pick holds (i + 1) 0)
         → ((s : Statement) → Lies run p (held_statement s)
         → ListsTo run at (statement_slots s) (pick holds (statement_hits s q) (none (statement_slots s))) dir o after
         (p + length (held_statement s)) g)
@@ -129,12 +130,12 @@ module _ {x : Policy} {q : Request} {run at dir₀ dir : List ℕ} {n i p o allo
         }
 
 -- whichever policy and request lie there, and those that do
-abbrev pub Judgings : (run at dir₀ : List ℕ) (n i p : ℕ) (dir : List ℕ) (o allowed : ℕ) → Type 0
+abbrev pub Judgings : (run at : List ℕ) (dir₀ : List Note) (n i p : ℕ) (dir : List Note) (o allowed : ℕ) → Type 0
 Judgings run at dir₀ n i p dir o allowed =
     (x : Policy) (q : Request) → Lies run 0 (held x) → Lies at 0 (held_request q)
     → Judging x q run at dir₀ n i p dir o allowed
 
-module _ {run at dir₀ : List ℕ} {n i p : ℕ} {dir : List ℕ} {o allowed : ℕ}
+module _ {run at : List ℕ} {dir₀ : List Note} {n i p : ℕ} {dir : List Note} {o allowed : ℕ}
     (w : Judgings run at dir₀ n i p dir o allowed)
     (y : (Listable held entries run 0 dir₀ 0) × (Lying held_request at 0)) where
   judging_here : Judging y.0.thing y.1.thing run at dir₀ n i p dir o allowed

@@ -19,6 +19,7 @@ use Rattle.candidates.specs.Kinds.{never, bounds, text_of, one_text}
 use Rattle.candidates.specs.Entries.{Place, before, legal_beginning, wild_kind}
 use Rattle.candidates.specs.Rows.{row_numbers, text_characters, padded, row, content_of}
 use Rattle.candidates.specs.Joining.{Textual, whole_text, single_text, begun_text, Numeric, no_number, one_number}
+use Rattle.rooms.specs.declared.listing.Handling.{Handling}
 use Rattle.rooms.specs.Rooms.{Slot, row_fits, fits, row_fed, fed, found_at, row_at}
 use Rattle.rooms.specs.Walking.{Chargeable, RightAt, Right, all_right, one_right}
 use Rattle.candidates.proofs.Laws.Bounding.{counted, counted_size}
@@ -106,7 +107,7 @@ module _ (s : Slot) (y : Value) (xs : List ℕ) (size : length xs ≡ row_number
   pub charged_size : length (row_fed s (found y) xs) ≡ row_numbers
   charged_size = by (handles s)
     where
-      by : {k : ℕ} → Handled s k → length (row_fed s (found y) xs) ≡ row_numbers
+      by : {k : Handling} → Handled s k → length (row_fed s (found y) xs) ≡ row_numbers
       by (denied d) = both_effects d
       by (alone w) = alone_size w
       by (wild w) = wild_size w

@@ -1,7 +1,8 @@
 -- The parts of a statement, noted one behind the other: its actions, resources and rows, and what each is asked for.
-use mathlib.Core.Path.{◌≡◌, refl, sym, ap, ◌∙◌, subst}
+use mathlib.Core.Path.{◌≡◌, sym, ap, ◌∙◌, subst}
 use mathlib.Core.List.{List, [], ◌++◌, map}
 use Prim.Native.Nat.{ℕ, ◌+◌, ◌<◌}
+use Rattle.std.specs.Prelude.{Option, Some, None}
 use native.Mathlib.Omega.{arith}
 use lib.ListN.{length, get_or, length-map, length-append}
 use Rattle.syntax.specs.Policy.{Effect, Value, text, Row, Statement, Context, Request}
@@ -15,25 +16,24 @@ use Rattle.held.proofs.Laws.Parts.{BehindLabel, BehindValue, statement_labelled,
 use Rattle.held.proofs.Laws.Parts.{actions_lie, texts_values, action_lies, resource_lies, contexts_lie}
 use Rattle.decision.specs.Decision.{Found, nothing, found}
 use Rattle.candidates.specs.Entries.{Place, in_action, in_resource}
-use Rattle.candidates.specs.Places.{place_number}
 use Rattle.rooms.specs.Rooms.{Slot, slots_at, row_slots, statement_slots, hits, row_hits}
-use Rattle.rooms.specs.Listing.{Effecting, Valued, no_value, a_value, Carried, Asked, no_context, Asking}
+use Rattle.rooms.specs.Listing.{Effecting, Valued, no_value, a_value, Carried, Asked, no_context, contexts, Asking}
 use Rattle.rooms.specs.Listing.{Lists, ListsTo, Listable, statement_found}
+use Rattle.rooms.specs.declared.listing.Note.{Note}
 use Rattle.rooms.specs.declared.listing.Noted.{Noted}
-use Rattle.rooms.proofs.Laws.ListingValues.{value_next, asked_next}
 use Rattle.rooms.proofs.Laws.ListingWalk.{lists_then, lists_ending}
 use Rattle.rooms.proofs.Laws.ListingStatement.{slots_many}
 
 -- what a walk over a list noted, and one over rows
-abbrev pub EntriesListed : (effect place : ℕ) (run : List ℕ) (p : ℕ) (at : List ℕ) (v : ℕ) (dir : List ℕ) (o : ℕ)
-    (after : List ℕ) (g : Noted) → Type 0
-EntriesListed effect place run p at v dir o after g =
-    (a : Effect) (k : Place) (xs : List Value) (f : Found) → effect ≡ effect_number a → place ≡ place_number k
-    → Lies run p (held_list held_value xs) → Valued at v f
+abbrev pub EntriesListed : (effect : ℕ) (k : Place) (run : List ℕ) (p : ℕ) (at : List ℕ) (v : Option ℕ)
+    (dir : List Note) (o : ℕ) (after : List Note) (g : Noted) → Type 0
+EntriesListed effect k run p at v dir o after g =
+    (a : Effect) (xs : List Value) (f : Found) → effect ≡ effect_number a → Lies run p (held_list held_value xs)
+    → Valued at v f
     → ListsTo run at (slots_at a k xs) (hits k f xs) dir o after (p + length (held_list held_value xs)) g
 
-abbrev pub RowsListed : (effect : ℕ) (run : List ℕ) (p : ℕ) (at : List ℕ) (v : ℕ) (dir : List ℕ) (o : ℕ)
-    (after : List ℕ) (g : Noted) → Type 0
+abbrev pub RowsListed : (effect : ℕ) (run : List ℕ) (p : ℕ) (at : List ℕ) (v : Option ℕ) (dir : List Note) (o : ℕ)
+    (after : List Note) (g : Noted) → Type 0
 RowsListed effect run p at v dir o after g =
     (a : Effect) (xs : List Row) (cs : List Context) → effect ≡ effect_number a → Lies run p (held_list held_row xs)
     → Asked at v cs
@@ -67,11 +67,11 @@ module _ {run : List ℕ} {p a : ℕ} (s : Statement) (l : Lies run p (held_stat
   label_far = far (statement_labelled s) (statement_labelled_lem s l)
 
   pub actions_listed :
-      {at dir mid : List ℕ} {v o : ℕ} {f : Found} {g : Noted} → EntriesListed (get_or run p 0) 0 run a at v dir o mid g
+      {at : List ℕ} {dir mid : List Note} {v : Option ℕ} {o : ℕ} {f : Found} {g : Noted} → EntriesListed (get_or run p 0) in_action run a at v dir o mid g
       → Valued at v f
       → ListsTo run at (action_slots s) (hits in_action f (map text s.actions)) dir o mid (a + actions_length s) g
   actions_listed {f = f} x w =
-      x s.effect in_action (map text s.actions) f (statement_effect s l) refl
+      x s.effect (map text s.actions) f (statement_effect s l)
       (texts_values s.actions (actions_lie s l far)) w
 
   module _ {b : ℕ} (at_b : b ≡ a + actions_length s) where
@@ -86,12 +86,12 @@ module _ {run : List ℕ} {p a : ℕ} (s : Statement) (l : Lies run p (held_stat
         (lies_front (held_list held_text s.resources) (held_list held_row s.rows) behind_actions_lem)
 
     pub resources_listed :
-        {at dir mid : List ℕ} {v o : ℕ} {f : Found} {g : Noted} → EntriesListed (get_or run p 0) 4 run b at v dir o mid g
+        {at : List ℕ} {dir mid : List Note} {v : Option ℕ} {o : ℕ} {f : Found} {g : Noted} → EntriesListed (get_or run p 0) in_resource run b at v dir o mid g
         → Valued at v f
         → ListsTo run at (resource_slots s) (hits in_resource f (map text s.resources)) dir o mid
         (b + resources_length s) g
     resources_listed {f = f} x w =
-        x s.effect in_resource (map text s.resources) f (statement_effect s l) refl resources_lie w
+        x s.effect (map text s.resources) f (statement_effect s l) resources_lie w
 
     module _ {c : ℕ} (at_c : c ≡ b + resources_length s) where
       pub rows_lie : Lies run c (held_list held_row s.rows)
@@ -117,7 +117,7 @@ module _ {run : List ℕ} {p a : ℕ} (s : Statement) (l : Lies run p (held_stat
 
       -- the statement ends where its rows do
       pub rows_listed :
-          {at dir mid : List ℕ} {v o : ℕ} {cs : List Context} {g : Noted}
+          {at : List ℕ} {dir mid : List Note} {v : Option ℕ} {o : ℕ} {cs : List Context} {g : Noted}
           → RowsListed (get_or run p 0) run c at v dir o mid g → Asked at v cs
           → ListsTo run at (row_slots s.effect s.rows) (row_hits s.rows cs) dir o mid
           (p + length (held_statement s)) g
@@ -126,7 +126,7 @@ module _ {run : List ℕ} {p a : ℕ} (s : Statement) (l : Lies run p (held_stat
 
 -- all of them
 pub statement_listed :
-    {run at dir one two after : List ℕ} {o m n e : ℕ} {r : Noted} (s : Statement) (f g : Found) (cs : List Context)
+    {run at : List ℕ} {dir one two after : List Note} {o m n e : ℕ} {r : Noted} (s : Statement) (f g : Found) (cs : List Context)
     → Lists run at (action_slots s) (hits in_action f (map text s.actions)) dir o m one
     → Lists run at (resource_slots s) (hits in_resource g (map text s.resources)) one m n two
     → ListsTo run at (row_slots s.effect s.rows) (row_hits s.rows cs) two n after e r
@@ -136,7 +136,7 @@ statement_listed s f g cs x y z = record { lists = lists_then x (lists_then y z.
 
 -- ---- each has room
 
-module _ {run dir : List ℕ} {p o : ℕ} (y : Listable held_statement statement_entries run p dir o) where
+module _ {run : List ℕ} {dir : List Note} {p o : ℕ} (y : Listable held_statement statement_entries run p dir o) where
   pub statement_lies : Lying held_statement run p
   statement_lies = record { thing = y.thing; lies = y.lies }
 
@@ -153,7 +153,7 @@ module _ {run dir : List ℕ} {p o : ℕ} (y : Listable held_statement statement
           room = omega (arith, y.room, length-map y.thing.actions text);
         }
 
-    module _ {at mid : List ℕ} {fs : List Found} {b : Noted}
+    module _ {at : List ℕ} {mid : List Note} {fs : List Found} {b : Noted}
         (x : ListsTo run at (action_slots y.thing) fs dir o mid (a + actions_length y.thing) b) where
       pub resources_listable : Listable (held_list held_value) length run b.past mid b.next
       unfolding statement_entries
@@ -173,7 +173,7 @@ module _ {run dir : List ℕ} {p o : ℕ} (y : Listable held_statement statement
           }
 
       pub rows_listable :
-          {after : List ℕ} {gs : List Found} {c : Noted}
+          {after : List Note} {gs : List Found} {c : Noted}
           → ListsTo run at (resource_slots y.thing) gs mid b.next after (b.past + resources_length y.thing) c
           → Listable (held_list held_row) row_entries run c.past after c.next
       unfolding statement_entries
@@ -197,33 +197,33 @@ module _ {run dir : List ℕ} {p o : ℕ} (y : Listable held_statement statement
 
 -- ---- what a request is asked for
 
-pub carried_none : (at : List ℕ) → Carried at 0
+pub carried_none : (at : List ℕ) → Carried at None
 carried_none at = record { value = nothing; valued = no_value }
 
-pub asking_none : (at : List ℕ) → Asking at 0
+pub asking_none : (at : List ℕ) → Asking at None
 asking_none at = record { context = []; asked = no_context }
 
 module _ {at : List ℕ} (q : Request) (l : Lies at 0 (held_request q)) where
-  pub action_valued : Valued at 1 (found (text q.action))
+  pub action_valued : Valued at (Some 0) (found (text q.action))
   action_valued = a_value (action_lies q l)
 
   module _ {t : ℕ} (at_t : BehindValue at 0 t) where
-    pub resource_valued : Valued at (t + 1) (found (text q.resource))
-    resource_valued = value_next (text q.resource) refl (resource_lies q l at_t)
+    pub resource_valued : Valued at (Some t) (found (text q.resource))
+    resource_valued = a_value (resource_lies q l at_t)
 
-    pub contexts_asked : {c : ℕ} → BehindValue at t c → Asked at (c + 1) q.context
-    contexts_asked at_c = asked_next (contexts_lie q l at_t at_c)
+    pub contexts_asked : {c : ℕ} → BehindValue at t c → Asked at (Some c) q.context
+    contexts_asked at_c = contexts (contexts_lie q l at_t at_c)
 
 -- every part of it, for what lies there
 module _ {at : List ℕ} (y : Lying held_request at 0) where
-  pub action_carried : Carried at 1
+  pub action_carried : Carried at (Some 0)
   action_carried = record { value = found (text y.thing.action); valued = action_valued y.thing y.lies }
 
   module _ {t : ℕ} (at_t : BehindValue at 0 t) where
     pub resource_inside : t < length at
     resource_inside = lies_inside (resource_lies y.thing y.lies at_t)
 
-    pub resource_carried : Carried at (t + 1)
+    pub resource_carried : Carried at (Some t)
     resource_carried =
         record { value = found (text y.thing.resource); valued = resource_valued y.thing y.lies at_t }
 
@@ -231,5 +231,5 @@ module _ {at : List ℕ} (y : Lying held_request at 0) where
       pub contexts_inside : c < length at
       contexts_inside = lies_inside (contexts_lie y.thing y.lies at_t at_c)
 
-      pub contexts_asking : Asking at (c + 1)
+      pub contexts_asking : Asking at (Some c)
       contexts_asking = record { context = y.thing.context; asked = contexts_asked y.thing y.lies at_t at_c }

@@ -1,25 +1,24 @@
 -- One turn of a walk: the entries of a list, the rows of a list, the statements of a policy.
-use mathlib.Core.Path.{◌≡◌, refl}
+use mathlib.Core.Path.{◌≡◌, refl, subst}
 use mathlib.Core.List.{List, [], ◌∷◌, ◌++◌}
-use Prim.Native.Nat.{ℕ, ◌+◌, ◌*◌, ◌≤◌, ◌<◌, ◌^◌}
+use Prim.Native.Nat.{ℕ, ◌+◌, ◌≤◌, ◌<◌}
 use native.Mathlib.Omega.{arith}
-use lib.ListN.{length, get_or, take, length-append}
-use Rattle.syntax.specs.Policy.{Effect, Value, Row, Statement, Policy, Context}
+use lib.ListN.{length, get_or, set, length-append}
+use Rattle.std.specs.Prelude.{Option}
+use Rattle.syntax.specs.Policy.{Effect, Operator, Value, Row, Statement, Policy, Context}
 use Rattle.held.specs.Held.{held_each, held_value, held_list, held_row, held_statement, held, effect_number, operator_number}
 use Rattle.held.specs.Held.{row_entries, statement_entries, entries}
 use Rattle.held.specs.Lying.{Lies, Lying}
 use Rattle.held.specs.Places.{Labelled}
-use Rattle.held.proofs.Laws.Runs.{value_inside}
 use Rattle.held.proofs.Laws.RunsStatement.{policy_count, policy_lies}
-use Rattle.held.proofs.Laws.Parts.{BehindLabel, BehindValue, row_inside, row_operator, entries_lie}
+use Rattle.held.proofs.Laws.Parts.{BehindLabel, BehindValue, row_inside, entries_lie}
 use Rattle.decision.specs.Decision.{Found, value_at}
 use Rattle.candidates.specs.Entries.{Place, in_row}
-use Rattle.candidates.specs.Places.{place_number, Placed}
 use Rattle.rooms.specs.Rooms.{Slot, slots_at, row_slots, statement_slots, slots, hit, hits, row_hits}
-use Rattle.rooms.specs.Listing.{Effecting, Valued, Carried, Asked, Asking, Note, Notes, note_numbers, Lists}
+use Rattle.rooms.specs.Listing.{Effecting, Valued, Carried, Asked, Asking, Notes, Lists}
+use Rattle.rooms.specs.declared.listing.Note.{Note}
 use Rattle.rooms.specs.Listing.{ListsTo, Listable}
 use Rattle.rooms.specs.declared.listing.Noted.{Noted}
-use Rattle.rooms.proofs.Laws.ListingValues.{valued_short}
 use Rattle.rooms.proofs.Laws.ListingWalk.{lists_ending, lists_one, Walk, walk_start, walk_lying, walk_room}
 use Rattle.rooms.proofs.Laws.ListingWalk.{walk_next, walk_end}
 use Rattle.rooms.proofs.Laws.ListingStatement.{slots_many, row_slots_many, statement_slots_many}
@@ -27,69 +26,54 @@ use Rattle.rooms.proofs.Laws.ListingStatement.{policy_slots_many}
 
 -- ---- the entries of a list are walked
 
-module _ (a : Effect) (p : Place) (xs : List Value) (f : Found) (run at dir₀ : List ℕ) (o₀ : ℕ) where
-  abbrev pub EntriesWalk : (ends n i e : ℕ) (dir : List ℕ) (o : ℕ) → Type 0
+module _ (a : Effect) (p : Place) (xs : List Value) (f : Found) (run at : List ℕ) (dir₀ : List Note) (o₀ : ℕ) where
+  abbrev pub EntriesWalk : (ends n i e : ℕ) (dir : List Note) (o : ℕ) → Type 0
   EntriesWalk ends n i e dir o =
       Walk held_value (slots_at a p) (hits p f) run at dir₀ o₀ (slots_at a p xs) (hits p f xs) ends n i e dir o
 
-module _ (a : Effect) (p : Place) (xs : List Value) (f : Found) {run at dir₀ dir : List ℕ} {o₀ ends n i e o : ℕ}
+module _ (a : Effect) (p : Place) (xs : List Value) (f : Found) {run at : List ℕ} {dir₀ dir : List Note} {o₀ ends n i e o : ℕ}
     (w : EntriesWalk a p xs f run at dir₀ o₀ ends n i e dir o) (t : i < n) where
   one : Value → List Slot
   one x = record { effect = a; place = p; entry = x } ∷ []
 
-  entry_room : o₀ + note_numbers * length xs ≤ length dir₀ → o + note_numbers ≤ length dir
+  entry_room : o₀ + length xs ≤ length dir₀ → o < length dir
   unfolding one
   entry_room room =
-      (walk_room w one (λ x ys. refl) t (λ x. 1) (λ x. refl) (omega (arith, room, slots_many a p xs))).room
+      omega (arith, (walk_room w one (λ x ys. refl) t (λ x. 1) (λ x. refl) (omega (arith, room, slots_many a p xs))).room)
 
   pub entry_next :
-      {q h k v : ℕ} {after : List ℕ} {r : ℕ} → BehindValue run e q
-      → ((x : Value) → Lies run e (held_value x)
-      → Notes run at (record { handling = h; place = k; entry = e; value = v })
-      (record { effect = a; place = p; entry = x }) (hit p f x))
-      → (length after ≡ length dir) × (r ≡ o + note_numbers) × (take r after ≡ take o dir ++ (h ∷ k ∷ e ∷ v ∷ []))
-      → EntriesWalk a p xs f run at dir₀ o₀ ends n (i + 1) q after r
+      {q : ℕ} (x : Note) → BehindValue run e q → o < length dir
+      → ((y : Value) → Lies run e (held_value y)
+      → Notes run at x (record { effect = a; place = p; entry = y }) (hit p f y))
+      → EntriesWalk a p xs f run at dir₀ o₀ ends n (i + 1) q (set dir o x) (o + 1)
   unfolding one
-  entry_next {q} {h} {k} {v} {after} {r} far told u =
-      let x : Note = record { handling = h; place = k; entry = e; value = v } in
-      walk_next w one (λ x ys. refl) (λ x. hit p f x ∷ []) (λ x ys. refl) t after (record { next = r; past = q })
-      (λ y l. record { lists = lists_one x (told y l) u.0 u.1 u.2; past = far y l })
+  entry_next {q} x far h told =
+      walk_next w one (λ y ys. refl) (λ y. hit p f y ∷ []) (λ y ys. refl) t (set dir o x)
+      (record { next = o + 1; past = q }) (λ y l. record { lists = lists_one x (told y l) h; past = far y l })
 
 -- whichever entries lie there, and those that do
 abbrev pub EntriesWalks :
-    (effect place : ℕ) (run : List ℕ) (p : ℕ) (at : List ℕ) (v : ℕ) (dir₀ : List ℕ) (o₀ n i e : ℕ) (dir : List ℕ)
-    (o : ℕ) → Type 0
-EntriesWalks effect place run p at v dir₀ o₀ n i e dir o =
-    (a : Effect) (k : Place) (xs : List Value) (f : Found) → effect ≡ effect_number a → place ≡ place_number k
-    → Lies run p (held_list held_value xs) → Valued at v f
-    → EntriesWalk a k xs f run at dir₀ o₀ (p + 1 + length (held_each held_value xs)) n i e dir o
+    (effect : ℕ) (k : Place) (run : List ℕ) (p : ℕ) (at : List ℕ) (v : Option ℕ) (dir₀ : List Note) (o₀ n i e : ℕ)
+    (dir : List Note) (o : ℕ) → Type 0
+EntriesWalks effect k run p at v dir₀ o₀ n i e dir o =
+    (a : Effect) (xs : List Value) (f : Found) → effect ≡ effect_number a → Lies run p (held_list held_value xs)
+    → Valued at v f → EntriesWalk a k xs f run at dir₀ o₀ (p + 1 + length (held_each held_value xs)) n i e dir o
 
-module _ {effect place : ℕ} {run : List ℕ} {p : ℕ} {at : List ℕ} {v : ℕ} {dir₀ : List ℕ} {o₀ n i e : ℕ} {dir : List ℕ}
-    {o : ℕ} (w : EntriesWalks effect place run p at v dir₀ o₀ n i e dir o)
-    (y : (Effecting effect) × (Placed place) × (Listable (held_list held_value) length run p dir₀ o₀) × (Carried at v))
-  where
-    entries_here : EntriesWalk y.0.effect y.1.place y.2.thing y.3.value run at dir₀ o₀
-        (p + 1 + length (held_each held_value y.2.thing)) n i e dir o
-    entries_here =
-        w y.0.effect y.1.place y.2.thing y.3.value y.0.is y.1.is y.2.lies y.3.valued
+module _ {effect : ℕ} {k : Place} {run : List ℕ} {p : ℕ} {at : List ℕ} {v : Option ℕ} {dir₀ : List Note}
+    {o₀ n i e : ℕ} {dir : List Note} {o : ℕ} (w : EntriesWalks effect k run p at v dir₀ o₀ n i e dir o)
+    (y : (Effecting effect) × (Listable (held_list held_value) length run p dir₀ o₀) × (Carried at v)) where
+  entries_here : EntriesWalk y.0.effect k y.1.thing y.2.value run at dir₀ o₀
+      (p + 1 + length (held_each held_value y.1.thing)) n i e dir o
+  entries_here = w y.0.effect y.1.thing y.2.value y.0.is y.1.lies y.2.valued
 
-    pub entries_size : length dir ≡ length dir₀
-    entries_size = entries_here.lists.size
+  pub entries_size : length dir ≡ length dir₀
+  entries_size = entries_here.lists.size
 
-    pub entry_lying : i < n → Lying held_value run e
-    entry_lying t = walk_lying entries_here t
+  pub entry_lying : i < n → Lying held_value run e
+  entry_lying t = walk_lying entries_here t
 
-    pub entry_noting :
-        {r : ℕ} → i < n
-        → ((k : Place) (x : Value) (f : Found) → place ≡ place_number k → Lies run e (held_value x) → Valued at v f
-        → Valued at r (hit k f x))
-        → (o + note_numbers ≤ length dir) × (e < 2 ^ 32) × (r < 2 ^ 32)
-    entry_noting t f =
-        let z = entry_lying t in (
-          entry_room y.0.effect y.1.place y.2.thing y.3.value entries_here t y.2.room,
-          omega (arith, value_inside z.thing z.lies, z.lies.bounded),
-          valued_short (f y.1.place z.thing y.3.value y.1.is z.lies y.3.valued),
-        )
+  pub entry_noting : i < n → o < length dir
+  entry_noting t = entry_room y.0.effect k y.1.thing y.2.value entries_here t y.1.room
 
 -- ---- the rows of a list are walked
 
@@ -103,25 +87,25 @@ row_ends x m far =
     let z : Labelled = record { first = operator_number x.operator; label = x.key; more = entries } in
     omega (arith, far z m, length-append x.key entries)
 
-module _ (a : Effect) (xs : List Row) (cs : List Context) (run at dir₀ : List ℕ) (o₀ : ℕ) where
-  abbrev pub RowsWalk : (ends n i e : ℕ) (dir : List ℕ) (o : ℕ) → Type 0
+module _ (a : Effect) (xs : List Row) (cs : List Context) (run at : List ℕ) (dir₀ : List Note) (o₀ : ℕ) where
+  abbrev pub RowsWalk : (ends n i e : ℕ) (dir : List Note) (o : ℕ) → Type 0
   RowsWalk ends n i e dir o =
       Walk held_row (row_slots a) (λ ys. row_hits ys cs) run at dir₀ o₀ (row_slots a xs) (row_hits xs cs) ends n i e dir o
 
-module _ (a : Effect) (xs : List Row) (cs : List Context) {run at dir₀ dir : List ℕ} {o₀ ends n i e o : ℕ}
+module _ (a : Effect) (xs : List Row) (cs : List Context) {run at : List ℕ} {dir₀ dir : List Note} {o₀ ends n i e o : ℕ}
     (w : RowsWalk a xs cs run at dir₀ o₀ ends n i e dir o) (t : i < n) where
   abbrev row_one : Row → List Slot
   row_one x = slots_at a (in_row x.operator) x.entries
 
   row_room :
-      o₀ + note_numbers * row_entries xs ≤ length dir₀ → Listable held_row (λ x. length x.entries) run e dir o
+      o₀ + row_entries xs ≤ length dir₀ → Listable held_row (λ x. length x.entries) run e dir o
   unfolding row_slots
   row_room room =
       walk_room w row_one (λ x ys. refl) t (λ x. length x.entries)
       (λ x. slots_many a (in_row x.operator) x.entries) (omega (arith, room, row_slots_many a xs))
 
   pub row_next :
-      {l : ℕ} {after : List ℕ} {g : Noted} → BehindLabel run e l
+      {l : ℕ} {after : List Note} {g : Noted} → BehindLabel run e l
       → ((x : Row) → Lies run e (held_row x)
       → ListsTo run at (row_one x) (hits (in_row x.operator) (value_at x.key cs) x.entries) dir o after
       (l + length (held_list held_value x.entries)) g)
@@ -131,15 +115,25 @@ module _ (a : Effect) (xs : List Row) (cs : List Context) {run at dir₀ dir : L
       walk_next w row_one (λ x ys. refl) (λ x. hits (in_row x.operator) (value_at x.key cs) x.entries)
       (λ x ys. refl) t after g (λ x m. lists_ending (row_ends x m far) (f x m))
 
+-- the operator as the code has it
+pub row_as :
+    {run at : List ℕ} {dir after : List Note} {k o : Operator} {d e : ℕ}
+    {g : Noted} (a : Effect) (f : Found) (ys : List Value) → k ≡ o → ListsTo run at (slots_at a (in_row k) ys) (hits (in_row k) f ys) dir d after e g
+    → ListsTo run at (slots_at a (in_row o) ys) (hits (in_row o) f ys) dir d after e g
+row_as {run} {at} {dir} {after} {d = d} {e = e} {g = g} a f ys i x =
+    subst (λ (k : Operator). ListsTo run at (slots_at a (in_row k) ys) (hits (in_row k) f ys) dir d after e g) i x
+
 -- whichever rows lie there, and those that do
 abbrev pub RowsWalks :
-    (effect : ℕ) (run : List ℕ) (p : ℕ) (at : List ℕ) (v : ℕ) (dir₀ : List ℕ) (o₀ n i e : ℕ) (dir : List ℕ) (o : ℕ)
+    (effect : ℕ) (run : List ℕ) (p : ℕ) (at : List ℕ) (v : Option ℕ) (dir₀ : List Note) (o₀ n i e : ℕ)
+    (dir : List Note) (o : ℕ)
     → Type 0
 RowsWalks effect run p at v dir₀ o₀ n i e dir o =
     (a : Effect) (xs : List Row) (cs : List Context) → effect ≡ effect_number a → Lies run p (held_list held_row xs)
     → Asked at v cs → RowsWalk a xs cs run at dir₀ o₀ (p + 1 + length (held_each held_row xs)) n i e dir o
 
-module _ {effect : ℕ} {run : List ℕ} {p : ℕ} {at : List ℕ} {v : ℕ} {dir₀ : List ℕ} {o₀ n i e : ℕ} {dir : List ℕ} {o : ℕ}
+module _ {effect : ℕ} {run : List ℕ} {p : ℕ} {at : List ℕ} {v : Option ℕ} {dir₀ : List Note} {o₀ n i e : ℕ}
+    {dir : List Note} {o : ℕ}
     (w : RowsWalks effect run p at v dir₀ o₀ n i e dir o)
     (y : (Effecting effect) × (Listable (held_list held_row) row_entries run p dir₀ o₀) × (Asking at v)) where
   rows_here : RowsWalk y.0.effect y.1.thing y.2.context run at dir₀ o₀
@@ -157,33 +151,31 @@ module _ {effect : ℕ} {run : List ℕ} {p : ℕ} {at : List ℕ} {v : ℕ} {di
 
   -- what its entries are noted with
   pub row_noting :
-      {l r : ℕ} → i < n → BehindLabel run e l
+      {l : ℕ} {r : Option ℕ} → i < n → BehindLabel run e l
       → ((x : Row) (cs : List Context) → Lies run e (held_row x) → Asked at v cs → Valued at r (value_at x.key cs))
-      → (Effecting effect) × (Placed (get_or run e 0)) × (Listable (held_list held_value) length run l dir o)
-      × (Carried at r)
+      → (Effecting effect) × (Listable (held_list held_value) length run l dir o) × (Carried at r)
   row_noting t far f =
       let z = row_room y.0.effect y.1.thing y.2.context rows_here t y.1.room in
       let x = z.thing in (
         y.0,
-        record { place = in_row x.operator; is = row_operator x z.lies },
         record { thing = x.entries; lies = entries_lie x z.lies far; room = z.room },
         record { value = value_at x.key y.2.context; valued = f x y.2.context z.lies y.2.asked },
       )
 
 -- ---- the statements of a policy are walked, with some values to each
 
-module _ (fs : Policy → List Found) (p : Policy) (run at dir₀ : List ℕ) where
-  abbrev pub StatementsWalk : (n i e : ℕ) (dir : List ℕ) (o : ℕ) → Type 0
+module _ (fs : Policy → List Found) (p : Policy) (run at : List ℕ) (dir₀ : List Note) where
+  abbrev pub StatementsWalk : (n i e : ℕ) (dir : List Note) (o : ℕ) → Type 0
   StatementsWalk n i e dir o =
       Walk held_statement slots fs run at dir₀ 0 (slots p) (fs p) (1 + length (held_each held_statement p)) n i e dir o
 
   pub statements_start : Lies run 0 (held p) → StatementsWalk (get_or run 0 0) 0 1 dir₀ 0
   statements_start l = walk_start p (policy_count p l) (policy_lies p l)
 
-module _ (fs : Policy → List Found) (p : Policy) {run at dir₀ dir : List ℕ} {n i e o : ℕ}
+module _ (fs : Policy → List Found) (p : Policy) {run at : List ℕ} {dir₀ dir : List Note} {n i e o : ℕ}
     (w : StatementsWalk fs p run at dir₀ n i e dir o) where
   pub statement_room :
-      i < n → 0 + note_numbers * entries p ≤ length dir₀ → Listable held_statement statement_entries run e dir o
+      i < n → 0 + entries p ≤ length dir₀ → Listable held_statement statement_entries run e dir o
   unfolding slots
   statement_room t room =
       walk_room w statement_slots (λ x ys. refl) t statement_entries statement_slots_many
@@ -191,7 +183,7 @@ module _ (fs : Policy → List Found) (p : Policy) {run at dir₀ dir : List ℕ
 
   pub statement_next :
       (some : Statement → List Found) → ((s : Statement) (ss : Policy) → fs (s ∷ ss) ≡ some s ++ fs ss) → i < n
-      → {after : List ℕ} {g : Noted}
+      → {after : List Note} {g : Noted}
       → ((x : Statement) → Lies run e (held_statement x)
       → ListsTo run at (statement_slots x) (some x) dir o after (e + length (held_statement x)) g)
       → StatementsWalk fs p run at dir₀ n (i + 1) g.past after g.next

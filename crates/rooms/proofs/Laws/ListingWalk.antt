@@ -1,16 +1,18 @@
 -- A walk over things that lie in a run, the entries of each noted behind those of the things before it.
 use mathlib.Core.Path.{◌≡◌, refl, sym, ap, ◌∙◌, subst}
 use mathlib.Core.List.{List, [], ◌∷◌, ◌++◌, append-nil, append_assoc}
-use Prim.Native.Nat.{ℕ, ◌+◌, ◌*◌, ◌≤◌, ◌<◌}
+use Prim.Native.Nat.{ℕ, ◌+◌, ◌≤◌, ◌<◌}
 use native.Mathlib.Omega.{arith}
-use lib.ListN.{length, take, length-append}
+use lib.ListN.{length, set, take, length-append, length-set}
+use lib.Seq.{take-suc-set}
+use native.Mathlib.Numerals.{add-one}
 use Rattle.held.specs.Held.{held_each, held_list}
 use Rattle.held.specs.Lying.{Lies, Lying}
-use Rattle.parts.proofs.Laws.Sofar.{held_append, held_one}
 use Rattle.held.proofs.Laws.Coming.{Coming, coming, coming_now, coming_lying, coming_end}
 use Rattle.decision.specs.Decision.{Found}
 use Rattle.rooms.specs.Rooms.{Slot}
-use Rattle.rooms.specs.Listing.{Note, noted, Notes, Told, all_told, one_told, note_numbers}
+use Rattle.rooms.specs.Listing.{Notes, Told, all_told, one_told}
+use Rattle.rooms.specs.declared.listing.Note.{Note}
 use Rattle.rooms.specs.Listing.{Lists, ListsTo, Listable}
 use Rattle.rooms.specs.declared.listing.Noted.{Noted}
 
@@ -22,13 +24,12 @@ pub told_append :
 told_append all_told u = u
 told_append (one_told n t) u = one_told n (told_append t u)
 
-pub lists_none : (run at dir : List ℕ) (o : ℕ) → Lists run at [] [] dir o o dir
-unfolding held_each
+pub lists_none : (run at : List ℕ) (dir : List Note) (o : ℕ) → Lists run at [] [] dir o o dir
 lists_none run at dir o =
     record { notes = []; told = all_told; size = refl; next = omega arith; is = sym (append-nil (take o dir)) }
 
 pub lists_then :
-    {run at dir mid after : List ℕ} {ss ts : List Slot} {fs gs : List Found} {o m r : ℕ}
+    {run at : List ℕ} {dir mid after : List Note} {ss ts : List Slot} {fs gs : List Found} {o m r : ℕ}
     → Lists run at ss fs dir o m mid → Lists run at ts gs mid m r after
     → Lists run at (ss ++ ts) (fs ++ gs) dir o r after
 lists_then {dir = dir} {ss = ss} {ts = ts} {o = o} x y =
@@ -37,56 +38,53 @@ lists_then {dir = dir} {ss = ss} {ts = ts} {o = o} x y =
       told = told_append x.told y.told;
       size = y.size ∙ x.size;
       next = omega (arith, x.next, y.next, length-append ss ts);
-      is = y.is ∙ ap (λ (l : List ℕ). l ++ held_each noted y.notes) x.is
-          ∙ append_assoc (take o dir) (held_each noted x.notes) (held_each noted y.notes)
-          ∙ ap (λ (l : List ℕ). take o dir ++ l) (sym (held_append noted x.notes y.notes));
+      is = y.is ∙ ap (λ (l : List Note). l ++ y.notes) x.is ∙ append_assoc (take o dir) x.notes y.notes;
     }
 
 pub lists_as :
-    {run at dir after : List ℕ} {ss ts : List Slot} {fs gs : List Found} {o r : ℕ} → ss ≡ ts → fs ≡ gs
+    {run at : List ℕ} {dir after : List Note} {ss ts : List Slot} {fs gs : List Found} {o r : ℕ} → ss ≡ ts → fs ≡ gs
     → Lists run at ss fs dir o r after → Lists run at ts gs dir o r after
 lists_as {run} {at} {dir} {after} {ss} {ts} {fs} {gs} {o} {r} e f x =
     subst (λ (l : List Found). Lists run at ts l dir o r after) f
     (subst (λ (l : List Slot). Lists run at l fs dir o r after) e x)
 
 pub lists_ending :
-    {run at dir after : List ℕ} {ss : List Slot} {fs : List Found} {o e f : ℕ} {g : Noted} → e ≡ f
+    {run at : List ℕ} {dir after : List Note} {ss : List Slot} {fs : List Found} {o e f : ℕ} {g : Noted} → e ≡ f
     → ListsTo run at ss fs dir o after e g → ListsTo run at ss fs dir o after f g
 lists_ending e x = record { lists = x.lists; past = x.past ∙ e }
 
 pub lists_charged :
-    {run at dir after : List ℕ} {ss : List Slot} {fs gs : List Found} {o e : ℕ} {g : Noted} → fs ≡ gs
+    {run at : List ℕ} {dir after : List Note} {ss : List Slot} {fs gs : List Found} {o e : ℕ} {g : Noted} → fs ≡ gs
     → ListsTo run at ss fs dir o after e g → ListsTo run at ss gs dir o after e g
 lists_charged f x = record { lists = lists_as refl f x.lists; past = x.past }
 
 -- of a list, behind its number
 pub list_ending :
-    {A : Type 0} (h : A → List ℕ) (xs : List A) (p : ℕ) {run at dir after : List ℕ} {ss : List Slot} {fs : List Found}
+    {A : Type 0} (h : A → List ℕ) (xs : List A) (p : ℕ) {run at : List ℕ} {dir after : List Note} {ss : List Slot} {fs : List Found}
     {o : ℕ} {g : Noted} → ListsTo run at ss fs dir o after (p + 1 + length (held_each h xs)) g
     → ListsTo run at ss fs dir o after (p + length (held_list h xs)) g
 list_ending h xs p x = lists_ending (omega arith) x
 
--- four numbers of one slot
+-- the note of one slot
 pub lists_one :
-    {run at dir after : List ℕ} {o r : ℕ} (x : Note) {s : Slot} {f : Found} → Notes run at x s f
-    → length after ≡ length dir → r ≡ o + note_numbers → take r after ≡ take o dir ++ noted x
-    → Lists run at (s ∷ []) (f ∷ []) dir o r after
-lists_one {dir = dir} {o = o} x n e g is =
+    {run at : List ℕ} {dir : List Note} {o : ℕ} (x : Note) {s : Slot} {f : Found} → Notes run at x s f → o < length dir
+    → Lists run at (s ∷ []) (f ∷ []) dir o (o + 1) (set dir o x)
+lists_one {dir = dir} {o = o} x n h =
     record {
       notes = x ∷ [];
       told = one_told n all_told;
-      size = e;
-      next = omega (arith, g);
-      is = is ∙ ap (λ (l : List ℕ). take o dir ++ l) (sym (held_one noted x));
+      size = length-set dir o x;
+      next = refl;
+      is = ap (λ (k : ℕ). take k (set dir o x)) (add-one o) ∙ take-suc-set dir o x h;
     }
 
 -- ---- a walk
 
 -- Of n things i are passed and the others lie from p on, up to the place `ends`. What is noted since dir₀ and o₀, and
 -- behind it the slots of the things still to come, are all.
-module _ {A : Type 0} (h : A → List ℕ) (ss : List A → List Slot) (fs : List A → List Found) (run at dir₀ : List ℕ)
-    (o₀ : ℕ) where
-  pub record Walk (all : List Slot) (told : List Found) (ends n i p : ℕ) (dir : List ℕ) (o : ℕ) : Type 0 where
+module _ {A : Type 0} (h : A → List ℕ) (ss : List A → List Slot) (fs : List A → List Found) (run at : List ℕ)
+    (dir₀ : List Note) (o₀ : ℕ) where
+  pub record Walk (all : List Slot) (told : List Found) (ends n i p : ℕ) (dir : List Note) (o : ℕ) : Type 0 where
     pub passed : List Slot
     pub values : List Found
     pub lists : Lists run at passed values dir₀ o₀ o dir
@@ -101,12 +99,12 @@ same_parts {ts = ts} {fs = fs} {gs = gs} {n = n} e f g =
 
 module _ {A : Type 0} {h : A → List ℕ} {ss : List A → List Slot} {fs : List A → List Found} {run at : List ℕ} where
   pub walk_start :
-      {n p o : ℕ} {dir : List ℕ} (xs : List A) → n ≡ length xs → Lies run p (held_each h xs)
+      {n p o : ℕ} {dir : List Note} (xs : List A) → n ≡ length xs → Lies run p (held_each h xs)
       → Walk h ss fs run at dir o (ss xs) (fs xs) (p + length (held_each h xs)) n 0 p dir o
   walk_start {o = o} {dir = dir} xs c l =
       record { passed = []; values = []; lists = lists_none run at dir o; coming = coming xs c l }
 
-  module _ {dir₀ dir : List ℕ} {o₀ ends n i p o : ℕ} {all : List Slot} {told : List Found}
+  module _ {dir₀ dir : List Note} {o₀ ends n i p o : ℕ} {all : List Slot} {told : List Found}
       (w : Walk h ss fs run at dir₀ o₀ all told ends n i p dir o) where
     pub walk_lying : i < n → Lying h run p
     walk_lying t = coming_lying w.coming t
@@ -114,7 +112,7 @@ module _ {A : Type 0} {h : A → List ℕ} {ss : List A → List Slot} {fs : Lis
     module _ (one : A → List Slot) (more : (x : A) (xs : List A) → ss (x ∷ xs) ≡ one x ++ ss xs) where
       -- the next thing has room
       pub walk_room :
-          i < n → (many : A → ℕ) → ((x : A) → length (one x) ≡ many x) → o₀ + note_numbers * length all ≤ length dir₀
+          i < n → (many : A → ℕ) → ((x : A) → length (one x) ≡ many x) → o₀ + length all ≤ length dir₀
           → Listable h many run p dir o
       walk_room t many size room =
           let y = coming_now w.coming t in
@@ -139,7 +137,7 @@ module _ {A : Type 0} {h : A → List ℕ} {ss : List A → List Slot} {fs : Lis
       -- it is noted
       pub walk_next :
           (some : A → List Found) → ((x : A) (xs : List A) → fs (x ∷ xs) ≡ some x ++ fs xs) → i < n
-          → (after : List ℕ) (g : Noted)
+          → (after : List Note) (g : Noted)
           → ((x : A) → Lies run p (h x) → ListsTo run at (one x) (some x) dir o after (p + length (h x)) g)
           → Walk h ss fs run at dir₀ o₀ all told ends n (i + 1) g.past after g.next
       unfolding held_each

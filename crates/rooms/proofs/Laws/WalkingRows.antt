@@ -4,7 +4,7 @@ use mathlib.Core.Bool.{Bool, true, false}
 use mathlib.Core.List.{List, ◌∷◌, ◌++◌, append_assoc}
 use Prim.Native.Nat.{ℕ, ◌+◌, ◌-◌, ◌*◌, ◌≤◌, ◌<◌}
 use native.Mathlib.Omega.{arith}
-use lib.ListN.{length, take, drop, length-append, take-append-drop}
+use lib.ListN.{length, get_or, take, drop, length-append, take-append-drop}
 use lib.Seq.{drop-drop, length-take-le, take_at, drop_at}
 use borrow.Rule.Slice.PartMut.{mid_of, put_mid, Post-is, mid_len, same_len_mid}
 use Rattle.syntax.specs.Forms.{both}
@@ -12,8 +12,16 @@ use Rattle.parts.proofs.Laws.Slots.{both_true}
 use Rattle.decision.specs.Decision.{Found}
 use Rattle.candidates.specs.Rows.{row_numbers, is_zero}
 use Rattle.rooms.specs.Rooms.{Slot, row_fits, fits, row_fed, fed, row_met, met}
-use Rattle.rooms.specs.Walking.{Listed, RightAt, Right, one_right}
-use Rattle.rooms.proofs.Laws.Walking.{Ahead, Next, ahead_start, ahead_next, ahead_end}
+use Rattle.rooms.specs.Listing.{Told, all_told, one_told}
+use Rattle.rooms.specs.declared.listing.Note.{Note}
+use Rattle.rooms.specs.Walking.{RightAt, Right, one_right}
+use Rattle.rooms.proofs.Laws.Walking.{Ahead, Next, ahead_start, ahead_next, ahead_end, blank}
+
+-- as many slots as notes
+pub told_many : {run at : List ℕ} {xs : List Note} {ss : List Slot} {fs : List Found} → Told run at xs ss fs
+    → length ss ≡ length xs
+told_many all_told = refl
+told_many (one_told n t) = omega (arith, told_many t)
 
 -- ---- the row at a place
 
@@ -66,24 +74,24 @@ module _ (a : ℕ) (room ys : List ℕ) (h : a + row_numbers ≤ length room) (n
 
 -- ---- tested
 
-pub record Testing (run at dir : List ℕ) (n : ℕ) (room : List ℕ) (ss : List Slot) (d a : ℕ) : Type 0 where
+pub record Testing (run at : List ℕ) (notes : List Note) (room : List ℕ) (ss : List Slot) (d a : ℕ) : Type 0 where
   pub rest : List Slot
   pub values : List Found
-  pub ahead : Ahead run at dir n (length room) d a rest values
+  pub ahead : Ahead run at notes (length room) d a rest values
   pub same : fits rest (drop a room) ≡ fits ss room
 
-module _ {run at dir : List ℕ} {n : ℕ} where
+module _ {run at : List ℕ} {notes : List Note} where
   module _ (room : List ℕ) where
-    pub testing_start : {ss : List Slot} {fs : List Found} → Listed run at dir n ss fs
-        → row_numbers * length ss ≤ length room → Testing run at dir n room ss 0 0
+    pub testing_start : {ss : List Slot} {fs : List Found} → Told run at notes ss fs
+        → row_numbers * length ss ≤ length room → Testing run at notes room ss 0 0
     testing_start {ss} {fs} l h = record { rest = ss; values = fs; ahead = ahead_start l h; same = refl }
 
-    module _ {ss : List Slot} {d a : ℕ} (w : Testing run at dir n room ss d a) where
-      pub testing_now : d < n → Next run at dir n (length room) d a w.rest w.values
-      testing_now k = ahead_next w.ahead k
+    module _ {ss : List Slot} {d a : ℕ} (w : Testing run at notes room ss d a) where
+      pub testing_now : d < length notes → Next run at notes (length room) d a (get_or notes d blank) w.rest w.values
+      testing_now k = ahead_next blank w.ahead k
 
       -- the row that is tested now
-      tested : (k : d < n) → let y = testing_now k in
+      tested : (k : d < length notes) → let y = testing_now k in
           both (row_fits y.slot (part a room)) (fits y.slots (drop (a + row_numbers) room)) ≡ fits ss room
       unfolding fits
       tested k =
@@ -94,12 +102,12 @@ module _ {run at dir : List ℕ} {n : ℕ} where
           (sym (drop-drop row_numbers a room))
           ∙ ap (λ (l : List Slot). fits l (drop a room)) (sym y.is) ∙ w.same
 
-      pub testing_not : (k : d < n) → row_fits (testing_now k).slot (part a room) ≡ false → false ≡ fits ss room
+      pub testing_not : (k : d < length notes) → row_fits (testing_now k).slot (part a room) ≡ false → false ≡ fits ss room
       testing_not k e =
           sym (ap (λ (b : Bool). both b (fits (testing_now k).slots (drop (a + row_numbers) room))) e) ∙ tested k
 
-      pub testing_next : (k : d < n) → row_fits (testing_now k).slot (part a room) ≡ true
-          → Testing run at dir n room ss (d + 4) (a + row_numbers)
+      pub testing_next : (k : d < length notes) → row_fits (testing_now k).slot (part a room) ≡ true
+          → Testing run at notes room ss (d + 1) (a + row_numbers)
       testing_next k e =
           record {
             rest = (testing_now k).slots;
@@ -109,7 +117,7 @@ module _ {run at dir : List ℕ} {n : ℕ} where
                 ∙ tested k;
           }
 
-      pub testing_end : n ≤ d → is_zero (drop a room) ≡ fits ss room
+      pub testing_end : length notes ≤ d → is_zero (drop a room) ≡ fits ss room
       unfolding fits
       testing_end k = ap (λ (l : List Slot). fits l (drop a room)) (sym (ahead_end w.ahead k)) ∙ w.same
 
@@ -142,20 +150,20 @@ right_head (one_right x r) = x
 right_tail : {s : Slot} {f : Found} {ss : List Slot} {fs : List Found} → Right (s ∷ ss) (f ∷ fs) → Right ss fs
 right_tail (one_right x r) = r
 
-pub record Feeding (run at dir : List ℕ) (n : ℕ) (ss : List Slot) (fs : List Found) (room₀ room : List ℕ) (d a : ℕ)
+pub record Feeding (run at : List ℕ) (notes : List Note) (ss : List Slot) (fs : List Found) (room₀ room : List ℕ) (d a : ℕ)
     : Type 0 where
   pub rest : List Slot
   pub values : List Found
-  pub ahead : Ahead run at dir n (length room) d a rest values
+  pub ahead : Ahead run at notes (length room) d a rest values
   pub right : Right rest values
   pub fit : fits rest (drop a room) ≡ true
   pub size : length room ≡ length room₀
   pub same : take a room ++ fed rest values (drop a room) ≡ fed ss fs room₀
 
-module _ {run at dir : List ℕ} {n : ℕ} where
+module _ {run at : List ℕ} {notes : List Note} where
   pub feeding_start :
-      {ss : List Slot} {fs : List Found} (room : List ℕ) → Listed run at dir n ss fs
-      → row_numbers * length ss ≤ length room → Right ss fs → fits ss room ≡ true → Feeding run at dir n ss fs room room 0 0
+      {ss : List Slot} {fs : List Found} (room : List ℕ) → Told run at notes ss fs
+      → row_numbers * length ss ≤ length room → Right ss fs → fits ss room ≡ true → Feeding run at notes ss fs room room 0 0
   feeding_start {ss} {fs} room l h r f =
       record {
         rest = ss;
@@ -167,23 +175,23 @@ module _ {run at dir : List ℕ} {n : ℕ} where
         same = refl;
       }
 
-  module _ {ss : List Slot} {fs : List Found} {room₀ room : List ℕ} {d a : ℕ} (w : Feeding run at dir n ss fs room₀ room d a) where
-    pub feeding_now : d < n → Next run at dir n (length room) d a w.rest w.values
-    feeding_now k = ahead_next w.ahead k
+  module _ {ss : List Slot} {fs : List Found} {room₀ room : List ℕ} {d a : ℕ} (w : Feeding run at notes ss fs room₀ room d a) where
+    pub feeding_now : d < length notes → Next run at notes (length room) d a (get_or notes d blank) w.rest w.values
+    feeding_now k = ahead_next blank w.ahead k
 
-    rights : (k : d < n) → Right ((feeding_now k).slot ∷ (feeding_now k).slots)
+    rights : (k : d < length notes) → Right ((feeding_now k).slot ∷ (feeding_now k).slots)
         ((feeding_now k).value ∷ (feeding_now k).values)
     rights k =
         subst (Right ((feeding_now k).slot ∷ (feeding_now k).slots)) (feeding_now k).with_values
         (subst (λ (l : List Slot). Right l w.values) (feeding_now k).is w.right)
 
-    pub feeding_right : (k : d < n) → RightAt (feeding_now k).slot (feeding_now k).value
+    pub feeding_right : (k : d < length notes) → RightAt (feeding_now k).slot (feeding_now k).value
     feeding_right k = right_head (rights k)
 
-    pub feeding_fits : (k : d < n) → row_fits (feeding_now k).slot (part a room) ≡ true
+    pub feeding_fits : (k : d < length notes) → row_fits (feeding_now k).slot (part a room) ≡ true
     feeding_fits k = fits_now a room (feeding_now k).is w.fit
 
-    fed_is : (k : d < n) → let y = feeding_now k in
+    fed_is : (k : d < length notes) → let y = feeding_now k in
         fed w.rest w.values (drop a room)
         ≡ row_fed y.slot y.value (part a room) ++ fed y.slots y.values (drop row_numbers (drop a room))
     unfolding fed
@@ -194,9 +202,9 @@ module _ {run at dir : List ℕ} {n : ℕ} where
         ∙ ap (λ (l : List ℕ). row_fed y.slot y.value l ++ fed y.slots y.values (drop row_numbers
         (drop a room))) (sym (part_is a room))
 
-    pub feeding_next : (k : d < n) (ys : List ℕ) → length ys ≡ length (part a room)
+    pub feeding_next : (k : d < length notes) (ys : List ℕ) → length ys ≡ length (part a room)
         → ys ≡ row_fed (feeding_now k).slot (feeding_now k).value (part a room)
-        → Feeding run at dir n ss fs room₀ (renewed a room ys) (d + 4) (a + row_numbers)
+        → Feeding run at notes ss fs room₀ (renewed a room ys) (d + 1) (a + row_numbers)
     feeding_next k ys o e =
         let y = feeding_now k in
         let inside = y.room in
@@ -205,7 +213,7 @@ module _ {run at dir : List ℕ} {n : ℕ} where
         record {
           rest = y.slots;
           values = y.values;
-          ahead = subst (λ (m : ℕ). Ahead run at dir n m (d + 4) (a + row_numbers) y.slots y.values)
+          ahead = subst (λ (m : ℕ). Ahead run at notes m (d + 1) (a + row_numbers) y.slots y.values)
               (sym same_size) y.ahead;
           right = right_tail (rights k);
           fit = ap (fits y.slots) (renewed_drop a room ys inside c) ∙ fits_later a room y.is w.fit;
@@ -215,7 +223,7 @@ module _ {run at dir : List ℕ} {n : ℕ} where
               w.same;
         }
 
-    pub feeding_end : n ≤ d → room ≡ fed ss fs room₀
+    pub feeding_end : length notes ≤ d → room ≡ fed ss fs room₀
     unfolding fed
     feeding_end k =
         sym (take-append-drop a room)
@@ -224,21 +232,21 @@ module _ {run at dir : List ℕ} {n : ℕ} where
 
 -- ---- joined
 
-pub record Meeting (run at dir : List ℕ) (n : ℕ) (ss : List Slot) (room₀ other room : List ℕ) (d a : ℕ) : Type 0 where
+pub record Meeting (run at : List ℕ) (notes : List Note) (ss : List Slot) (room₀ other room : List ℕ) (d a : ℕ) : Type 0 where
   pub rest : List Slot
   pub values : List Found
-  pub ahead : Ahead run at dir n (length room) d a rest values
+  pub ahead : Ahead run at notes (length room) d a rest values
   pub fit : fits rest (drop a room) ≡ true
   pub other_fit : fits rest (drop a other) ≡ true
   pub size : length room ≡ length room₀
   pub other_size : length other ≡ length room
   pub same : take a room ++ met rest (drop a room) (drop a other) ≡ met ss room₀ other
 
-module _ {run at dir : List ℕ} {n : ℕ} where
+module _ {run at : List ℕ} {notes : List Note} where
   pub meeting_start :
-      {ss : List Slot} {fs : List Found} (room other : List ℕ) → Listed run at dir n ss fs
+      {ss : List Slot} {fs : List Found} (room other : List ℕ) → Told run at notes ss fs
       → row_numbers * length ss ≤ length room → length other ≡ length room → fits ss room ≡ true → fits ss other ≡ true
-      → Meeting run at dir n ss room other room 0 0
+      → Meeting run at notes ss room other room 0 0
   meeting_start {ss} {fs} room other l h o f g =
       record {
         rest = ss;
@@ -251,17 +259,17 @@ module _ {run at dir : List ℕ} {n : ℕ} where
         same = refl;
       }
 
-  module _ {ss : List Slot} {room₀ other room : List ℕ} {d a : ℕ} (w : Meeting run at dir n ss room₀ other room d a) where
-    pub meeting_now : d < n → Next run at dir n (length room) d a w.rest w.values
-    meeting_now k = ahead_next w.ahead k
+  module _ {ss : List Slot} {room₀ other room : List ℕ} {d a : ℕ} (w : Meeting run at notes ss room₀ other room d a) where
+    pub meeting_now : d < length notes → Next run at notes (length room) d a (get_or notes d blank) w.rest w.values
+    meeting_now k = ahead_next blank w.ahead k
 
-    pub meeting_fits : (k : d < n) → row_fits (meeting_now k).slot (part a room) ≡ true
+    pub meeting_fits : (k : d < length notes) → row_fits (meeting_now k).slot (part a room) ≡ true
     meeting_fits k = fits_now a room (meeting_now k).is w.fit
 
-    pub meeting_other : (k : d < n) → row_fits (meeting_now k).slot (part a other) ≡ true
+    pub meeting_other : (k : d < length notes) → row_fits (meeting_now k).slot (part a other) ≡ true
     meeting_other k = fits_now a other (meeting_now k).is w.other_fit
 
-    met_is : (k : d < n) → let y = meeting_now k in
+    met_is : (k : d < length notes) → let y = meeting_now k in
         met w.rest (drop a room) (drop a other)
         ≡ row_met y.slot (part a room) (part a other)
         ++ met y.slots (drop row_numbers (drop a room)) (drop (a + row_numbers) other)
@@ -276,9 +284,9 @@ module _ {run at dir : List ℕ} {n : ℕ} where
         ∙ ap (λ (l : List ℕ). row_met y.slot (part a room) l
         ++ met y.slots (drop row_numbers (drop a room)) (drop (a + row_numbers) other)) (sym (part_is a other))
 
-    pub meeting_next : (k : d < n) (ys : List ℕ) → length ys ≡ length (part a room)
+    pub meeting_next : (k : d < length notes) (ys : List ℕ) → length ys ≡ length (part a room)
         → ys ≡ row_met (meeting_now k).slot (part a room) (part a other)
-        → Meeting run at dir n ss room₀ other (renewed a room ys) (d + 4) (a + row_numbers)
+        → Meeting run at notes ss room₀ other (renewed a room ys) (d + 1) (a + row_numbers)
     meeting_next k ys o e =
         let y = meeting_now k in
         let inside = y.room in
@@ -288,7 +296,7 @@ module _ {run at dir : List ℕ} {n : ℕ} where
         record {
           rest = y.slots;
           values = y.values;
-          ahead = subst (λ (m : ℕ). Ahead run at dir n m (d + 4) (a + row_numbers) y.slots y.values)
+          ahead = subst (λ (m : ℕ). Ahead run at notes m (d + 1) (a + row_numbers) y.slots y.values)
               (sym same_size) y.ahead;
           fit = ap (fits y.slots) (renewed_drop a room ys inside c) ∙ fits_later a room y.is w.fit;
           other_fit = fits_later a other y.is w.other_fit;
@@ -298,7 +306,7 @@ module _ {run at dir : List ℕ} {n : ℕ} where
               (met_is k ∙ ap (λ (l : List ℕ). l ++ later (drop row_numbers (drop a room))) (sym e)) w.same;
         }
 
-    pub meeting_end : n ≤ d → room ≡ met ss room₀ other
+    pub meeting_end : length notes ≤ d → room ≡ met ss room₀ other
     unfolding met
     meeting_end k =
         sym (take-append-drop a room)

@@ -18,12 +18,11 @@ use Rattle.held.specs.Held.{held_each, held_row, operator_number}
 use Rattle.parts.specs.Room.{Roomy}
 use Rattle.parts.specs.Spoken.{operator_is}
 use Rattle.parts.specs.Holding.{Extends}
-use Rattle.parts.specs.declared.words.Operator as W
 use Rattle.parts.proofs.Laws.Differ.{same_group_symmetric}
 use Rattle.parts.proofs.Laws.Formed.{then_read}
 use Rattle.parts.proofs.Laws.Sofar.{held_append}
 use Rattle.straight.specs.declared.rows.Operated.{Operated}
-use Rattle.straight.specs.declared.rows.Operated.TheVariants as O
+use Rattle.std.specs.Prelude.{Option, Some}
 use Rattle.straight.specs.Marks.{Opened, Closed, Parted, Named}
 use Rattle.straight.specs.Taking.{TakenSeveral, TakenMember}
 use Rattle.straight.specs.Operators.{word_of, NamesOperator}
@@ -36,8 +35,8 @@ use Rattle.straight.proofs.Laws.Differing.{differing_still, differing_more}
 
 -- ---- an operator and its rows
 
-pub names_by : (s : List ℕ) (i : ℕ) {r : Operated} {o : W.Operator} {v : ℕ} → NamesOperator s i r → r ≡ O.By o v
-    → Named s (word_of (operator_is o)) i v
+pub names_by : (s : List ℕ) (i : ℕ) {r : Option Operated} {y : Operated} → NamesOperator s i r → r ≡ Some y
+    → Named s (word_of (operator_is y.operator)) i y.value
 names_by s i t e = subst (NamesOperator s i) e t
 
 operator_said : (o : Operator) → operator_of (word_of o) ≡ read o
@@ -96,14 +95,14 @@ condition_said (named w t ms) gs n q y = then_read _ q ∙ ap (λ (b : Bool). on
 abbrev pub operators : Kind Members Group
 operators = record { frame = members_of held_group group_of 2; alike = same_group; symmetric = same_group_symmetric }
 
-pub record Rising (s : List ℕ) (v : ℕ) (run₀ : List ℕ) (at i : ℕ) (run : List ℕ) (p n : ℕ) (marks : List ℕ) : Type 0 where
+pub record Rising (s : List ℕ) (v : ℕ) (run₀ : List ℕ) (at i : ℕ) (run : List ℕ) (p n : ℕ) (marks : List Bool) : Type 0 where
   pub many : ℕ
   pub groups : Differing operators s v run₀ at i run p many
   pub count : n ≡ length (rows_in groups.things)
   pub few : n ≤ 16384
   pub seen : Seen marks groups.things
 
-pub rising_start : {s run : List ℕ} {v at i : ℕ} → Roomy run at 0 → Opened s 123 v i → Rising s v run at i run at 0 (replicate 4 0)
+pub rising_start : {s run : List ℕ} {v at i : ℕ} → Roomy run at 0 → Opened s 123 v i → Rising s v run at i run at 0 (replicate 4 false)
 unfolding rows_in differing_start
 rising_start {s} r o =
     record {
@@ -114,7 +113,7 @@ rising_start {s} r o =
       seen = seen_none;
     }
 
-module _ {s run₀ run : List ℕ} {v at i p n : ℕ} {marks : List ℕ} (g : Rising s v run₀ at i run p n marks) where
+module _ {s run₀ run : List ℕ} {v at i p n : ℕ} {marks : List Bool} (g : Rising s v run₀ at i run p n marks) where
   pub rising_roomy : Roomy run p 0
   rising_roomy = differing_roomy operators g.groups
 
@@ -133,12 +132,12 @@ module _ {s run₀ run : List ℕ} {v at i p n : ℕ} {marks : List ℕ} (g : Ri
     unfolding group group_taken member_passed
     rising_count = omega (arith, g.count, t.gathered.count, rows_many g.groups.things group.thing)
 
-    module _ {number : ℕ} (is : number ≡ operator_number o) (clear : get_or marks number 0 ≡ 0) where
+    module _ {number : ℕ} (is : number ≡ operator_number o) (clear : get_or marks number false ≡ false) where
       new_operator : has_like same_group group.thing g.groups.things ≡ false
       unfolding group group_taken member_passed
-      new_operator = g.seen.clear group.thing (ap (λ (j : ℕ). get_or marks j 0) (sym is) ∙ clear)
+      new_operator = g.seen.clear group.thing (ap (λ (j : ℕ). get_or marks j false) (sym is) ∙ clear)
 
-      pub rising_more : {c : ℕ} → n + k ≤ 16384 → Parted s 44 e c → Rising s v run₀ at c run₁ q (n + k) (set marks number 1)
+      pub rising_more : {c : ℕ} → n + k ≤ 16384 → Parted s 44 e c → Rising s v run₀ at c run₁ q (n + k) (set marks number true)
       unfolding group group_taken member_passed differing_more
       rising_more few c =
           record {

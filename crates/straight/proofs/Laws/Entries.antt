@@ -14,14 +14,12 @@ use Rattle.syntax.specs.Forms.{Reading, wrong, read, is_sid, is_action, wildcard
 use Rattle.syntax.specs.Members.{then, characters_of, one_or_more}
 use Rattle.syntax.specs.PolicyLayout.{sid_of, action_of, resource_of, number_of_json, value_of}
 use Rattle.syntax.specs.Told.{told_number}
-use Rattle.syntax.specs.declared.numbers.Number.{Number}
-use Rattle.syntax.specs.declared.numbers.Number.TheVariants as K
+use Rattle.std.specs.Prelude.{Option, Some, None}
 use Rattle.syntax.proofs.Laws.Numbers.{number_small}
 use Rattle.held.specs.Held.{held_text, held_number, held_value, held_list}
 use Rattle.parts.specs.Room.{Roomy}
 use Rattle.parts.specs.Holding.{is_list, Extends, entry_of}
 use Rattle.parts.specs.declared.holding.Ended.{Ended}
-use Rattle.parts.specs.declared.holding.Ended.TheVariants as N
 use Rattle.parts.specs.declared.words.Operator.TheVariants as O
 use Rattle.parts.specs.declared.entries.Entry.{Entry}
 use Rattle.parts.specs.declared.entries.Entry.TheVariants as E
@@ -61,9 +59,9 @@ string_number (string w) e = ap (λ x. then x number_in) e
 string_number (list ts) e = wrong_read e
 string_number (object ms) e = wrong_read e
 
-module _ {s run run' : List ℕ} {v at p e n : ℕ} {r : Number} (room : Roomy run at 0)
+module _ {s run run' : List ℕ} {v at p e n : ℕ} {r : Option ℕ} (room : Roomy run at 0)
     (t : Taken held_text characters_of 0 s run run' v at p e)
-    (told : told_number r ≡ number_in (mid_of (at + 1) (p - (at + 1)) run')) (is : r ≡ K.Is n) where
+    (told : told_number r ≡ number_in (mid_of (at + 1) (p - (at + 1)) run')) (is : r ≡ Some n) where
   pub number_bound : n ≤ greatest
   number_bound = number_small (mid_of (at + 1) (p - (at + 1)) run') (number_told told is)
 
@@ -84,16 +82,16 @@ module _ {s run run' : List ℕ} {v at p e n : ℕ} {r : Number} (room : Roomy r
 pub takes_as :
     {A B : Type 0} (h : A → List ℕ) (k : B → List ℕ) (f : Json → Reading A) (g : Json → Reading B) (i : A → B)
     → ((x : A) → k (i x) ≡ h x) → ((t : Json) (x : A) → f t ≡ read x → g t ≡ read (i x))
-    → (s run run' : List ℕ) (v at : ℕ) (r : Ended)
+    → (s run run' : List ℕ) (v at : ℕ) (r : Option Ended)
     → Takes h f 0 s run run' v at r → Takes k g 0 s run run' v at r
-takes_as h k f g i held said s run run' v at (N.Past p e) t =
+takes_as h k f g i held said s run run' v at (Some r) t =
     retaken t
     (record {
       thing = i t.laid.thing;
       said = said t.tree t.laid.thing t.laid.said;
-      extends = subst (λ (l : List ℕ). Extends run run' at l p) (sym (held t.laid.thing)) t.laid.extends;
+      extends = subst (λ (l : List ℕ). Extends run run' at l r.past) (sym (held t.laid.thing)) t.laid.extends;
     })
-takes_as h k f g i held said s run run' v at N.Wrong l = l
+takes_as h k f g i held said s run run' v at None l = l
 
 -- ---- one
 

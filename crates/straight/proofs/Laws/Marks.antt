@@ -12,11 +12,11 @@ use Rattle.chars.specs.Strings.{plain}
 use Rattle.text.specs.Json.{Space, Spelt, Quoted}
 use Rattle.text.specs.Machine.{byte, ws}
 use Rattle.text.specs.Reading.{Done}
-use Rattle.text.specs.declared.verdict.Verdict.TheVariants.{Breaks}
 use Rattle.text.proofs.Laws.Parts.{part_length}
 use Rattle.text.proofs.Laws.Places.{Alive, done_alive, past_end, not_whole}
 use Rattle.text.proofs.Laws.Taking.Items.{alive_byte}
 use Rattle.text.proofs.Laws.Taking.Spaces.{alive_space}
+use Rattle.std.specs.Prelude.{Option, Some, None}
 use Rattle.straight.specs.Marks.{Unless, Opened, Closed, Parted, all_bare}
 use Rattle.straight.proofs.Laws.Bare.{all_bare_body}
 
@@ -27,7 +27,7 @@ bytes_left : {s : List ℕ} {i : ℕ} (bs : List ℕ) → Alive s (map byte bs) 
 bytes_left {s} {i} [] v = by (dec_lt i (length s))
   where
     by : Dec (i < length s) → i + 0 ≡ length s
-    by (yes h) = absurd (not_whole (Breaks i) tt (sym (past_end s i h) ∙ v.lives))
+    by (yes h) = absurd (not_whole (sym (past_end s i h) ∙ v.lives))
     by (no h) = omega (arith, v.high)
 bytes_left {s} {i} (b ∷ bs) v =
     let z = bytes_left {s = s} {i = i + 1} bs (alive_byte b (map byte bs) v).next in omega arith
@@ -62,16 +62,15 @@ quoted_bare {s} {w} {at} {to} b o c p =
 
 -- ---- answers
 
--- the answer 0 says nothing
-pub unless_none : {P : Type 0} → Unless 0 P
-unless_none = record { found = λ h. absurd (h refl) }
+pub unless_none : {r : Option ℕ} {P : ℕ → Type 0} → r ≡ None → Unless r P
+unless_none e = record { found = λ i h. let no : Some i ≡ None = sym h ∙ e in cc }
 
-pub unless_some : {r : ℕ} {P : Type 0} → P → Unless r P
-unless_some p = record { found = λ h. p }
+pub unless_some : {r : ℕ} {P : ℕ → Type 0} → P r → Unless (Some r) P
+unless_some {P = P} p = record { found = λ i h. let same : _ ≡ i = cc in subst P same p }
 
 -- what follows from what is found
-pub unless_then : {r : ℕ} {P Q : Type 0} → (P → Q) → Unless r P → Unless r Q
-unless_then f u = record { found = λ h. f (u.found h) }
+pub unless_then : {r : Option ℕ} {P Q : ℕ → Type 0} → ((i : ℕ) → P i → Q i) → Unless r P → Unless r Q
+unless_then f u = record { found = λ i h. f i (u.found i h) }
 
 -- ---- marks
 

@@ -10,7 +10,6 @@ use Rattle.chars.specs.Base.{part}
 use Rattle.text.specs.Json.{number, depth, Number, unsigned, a_number}
 use Rattle.text.specs.Machine.{byte, integer}
 use Rattle.text.specs.Reading.{Done}
-use Rattle.text.specs.declared.verdict.Verdict.TheVariants.{Breaks}
 use Rattle.text.proofs.Laws.Places.{Alive, done_alive, not_whole, past_end}
 use Rattle.text.proofs.Laws.Taking.Items.{alive_byte}
 use Rattle.text.proofs.Laws.Taking.Numbers.{took_plain}
@@ -18,8 +17,7 @@ use Rattle.syntax.specs.Limits.{greatest}
 use Rattle.syntax.specs.Forms.{number_in}
 use Rattle.syntax.specs.PolicyLayout.{number_of_json}
 use Rattle.syntax.specs.Told.{told_number}
-use Rattle.syntax.specs.declared.numbers.Number.{Number as Told}
-use Rattle.syntax.specs.declared.numbers.Number.TheVariants as K
+use Rattle.std.specs.Prelude.{Option, Some}
 use Rattle.syntax.proofs.Laws.Numbers.{number_small}
 use Rattle.held.specs.Held.{held_number}
 use Rattle.parts.specs.Holding.{Extends}
@@ -33,7 +31,7 @@ owed_length : {s : List ℕ} (w : List ℕ) {i : ℕ} → Alive s (map byte w) i
 owed_length {s} [] {i} a = by (dec_lt i (length s))
   where
     by : Dec (i < length s) → i + 0 ≡ length s
-    by (yes h) = absurd (not_whole (Breaks i) tt (sym (past_end s i h) ∙ a.lives))
+    by (yes h) = absurd (not_whole (sym (past_end s i h) ∙ a.lives))
     by (no h) = omega (arith, a.high)
 owed_length (b ∷ w) a =
     let d = alive_byte b (map byte w) a in
@@ -55,8 +53,8 @@ plain_is : (w : List ℕ) → number_of_json (number w) ≡ number_in w
 unfolding number_of_json
 plain_is w = refl
 
-module _ {s : List ℕ} {v e n : ℕ} {r : Told} (d : Done s (integer ∷ []) v e)
-    (told : told_number r ≡ number_in (part s v e)) (is : r ≡ K.Is n) where
+module _ {s : List ℕ} {v e n : ℕ} {r : Option ℕ} (d : Done s (integer ∷ []) v e)
+    (told : told_number r ≡ number_in (part s v e)) (is : r ≡ Some n) where
   pub plain_bound : n ≤ greatest
   plain_bound = number_small (part s v e) (number_told told is)
 

@@ -54,20 +54,20 @@ number_small StringEquals = omega arith
 number_small StringLike = omega arith
 number_small NumericLessThanEquals = omega arith
 
--- a place of the marks by operator: 0 where no group has it
-pub record Seen (marks : List ℕ) (gs : List Group) : Type 0 where
+-- a mark for each operator: not set where no group has it
+pub record Seen (marks : List Bool) (gs : List Group) : Type 0 where
   pub size : length marks ≡ 4
-  pub clear : (g : Group) → get_or marks (operator_number g.operator) 0 ≡ 0 → has_like same_group g gs ≡ false
-  pub marked : (g : Group) → (get_or marks (operator_number g.operator) 0 ≡ 0 → ⊥) → has_like same_group g gs ≡ true
+  pub clear : (g : Group) → get_or marks (operator_number g.operator) false ≡ false → has_like same_group g gs ≡ false
+  pub marked : (g : Group) → get_or marks (operator_number g.operator) false ≡ true → has_like same_group g gs ≡ true
 
-zeros : (o : Operator) → ◌≡◌ {A = ℕ} (get_or (replicate 4 0) (operator_number o) 0) 0
-zeros StringEquals = refl
-zeros StringLike = refl
-zeros NumericLessThanEquals = refl
+unmarked : (o : Operator) → get_or (replicate 4 false) (operator_number o) false ≡ false
+unmarked StringEquals = refl
+unmarked StringLike = refl
+unmarked NumericLessThanEquals = refl
 
-pub seen_none : Seen (replicate 4 0) []
+pub seen_none : Seen (replicate 4 false) []
 unfolding has_like
-seen_none = record { size = refl; clear = λ g e. refl; marked = λ g e. absurd (e (zeros g.operator)) }
+seen_none = record { size = refl; clear = λ g e. refl; marked = λ g e. let no = unmarked g.operator in cc }
 
 either_false : (t : Bool) → either t false ≡ t
 either_false true = refl
@@ -77,11 +77,11 @@ either_true : (t : Bool) → either t true ≡ true
 either_true true = refl
 either_true false = refl
 
-pub seen_more : {marks : List ℕ} {gs : List Group} (f : Group) (k : ℕ) → k ≡ operator_number f.operator
-    → Seen marks gs → Seen (set marks k 1) (gs ++ (f ∷ []))
+pub seen_more : {marks : List Bool} {gs : List Group} (f : Group) (k : ℕ) → k ≡ operator_number f.operator
+    → Seen marks gs → Seen (set marks k true) (gs ++ (f ∷ []))
 seen_more {marks} {gs} f k e s =
     record {
-      size = length-set marks k 1 ∙ s.size;
+      size = length-set marks k true ∙ s.size;
       clear = λ g z. clear g z (ℕ_discrete (operator_number g.operator) k);
       marked = λ g z. marked g z (ℕ_discrete (operator_number g.operator) k);
     }
@@ -89,19 +89,19 @@ seen_more {marks} {gs} f k e s =
     low : k < length marks
     low = omega (arith, e, number_small f.operator, s.size)
 
-    one : (g : Group) → operator_number g.operator ≡ k → get_or (set marks k 1) (operator_number g.operator) 0 ≡ 1
-    one g q = ap (λ (i : ℕ). get_or (set marks k 1) i 0) q ∙ get_or-set_same marks k 1 0 low
+    one : (g : Group) → operator_number g.operator ≡ k → get_or (set marks k true) (operator_number g.operator) false ≡ true
+    one g q = ap (λ (i : ℕ). get_or (set marks k true) i false) q ∙ get_or-set_same marks k true false low
 
-    clear : (g : Group) → get_or (set marks k 1) (operator_number g.operator) 0 ≡ 0
+    clear : (g : Group) → get_or (set marks k true) (operator_number g.operator) false ≡ false
         → Dec (operator_number g.operator ≡ k) → has_like same_group g (gs ++ (f ∷ [])) ≡ false
-    clear g z (yes q) = absurd (omega (arith, one g q, z))
+    clear g z (yes q) = let set_here = one g q in cc
     clear g z (no q) =
         like_snoc same_group g f gs
         ∙ ap (either (has_like same_group g gs)) (other_number g.operator f.operator (λ i. q (i ∙ sym e)))
         ∙ either_false (has_like same_group g gs)
-        ∙ s.clear g (sym (get_or-set_other marks k (operator_number g.operator) 1 0 q) ∙ z)
+        ∙ s.clear g (sym (get_or-set_other marks k (operator_number g.operator) true false q) ∙ z)
 
-    marked : (g : Group) → (get_or (set marks k 1) (operator_number g.operator) 0 ≡ 0 → ⊥)
+    marked : (g : Group) → get_or (set marks k true) (operator_number g.operator) false ≡ true
         → Dec (operator_number g.operator ≡ k) → has_like same_group g (gs ++ (f ∷ [])) ≡ true
     marked g z (yes q) =
         like_snoc same_group g f gs
@@ -111,4 +111,4 @@ seen_more {marks} {gs} f k e s =
         like_snoc same_group g f gs
         ∙ ap (either (has_like same_group g gs)) (other_number g.operator f.operator (λ i. q (i ∙ sym e)))
         ∙ either_false (has_like same_group g gs)
-        ∙ s.marked g (λ i. z (get_or-set_other marks k (operator_number g.operator) 1 0 q ∙ i))
+        ∙ s.marked g (sym (get_or-set_other marks k (operator_number g.operator) true false q) ∙ z)

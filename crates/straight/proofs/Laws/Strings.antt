@@ -26,7 +26,7 @@ use Rattle.held.specs.Held.{held_text}
 use Rattle.parts.specs.Room.{Roomy}
 use Rattle.parts.specs.Holding.{Extends, Laid, Kept}
 use Rattle.parts.specs.declared.holding.Ended.{Ended}
-use Rattle.parts.specs.declared.holding.Ended.TheVariants as N
+use Rattle.std.specs.Prelude.{Option, Some, None}
 use Rattle.parts.proofs.Laws.Extends.{extends_none, extends_then, extends_after, extends_front, extends_within}
 use Rattle.parts.proofs.Laws.Extends.{extends_kept}
 use Rattle.straight.specs.Marks.{bare, all_bare, Opened, Closed}
@@ -212,12 +212,12 @@ bare_taken {s} {run} {run₁} {v} {at} {n} o low p q =
 
 -- the run may have been written on behind the place before
 module _ {A : Type 0} (h : A → List ℕ) (f : Json → Reading A) (n : ℕ) (s run' : List ℕ) (v at : ℕ) where
-  pub takes_after : {run run₁ : List ℕ} (r : Ended) → Kept run run₁ at → Takes h f n s run₁ run' v at r
+  pub takes_after : {run run₁ : List ℕ} (r : Option Ended) → Kept run run₁ at → Takes h f n s run₁ run' v at r
       → Takes h f n s run run' v at r
-  takes_after (N.Past p e) k t =
+  takes_after (Some r) k t =
       retaken t
       (record { thing = t.laid.thing; said = t.laid.said; extends = extends_after k t.laid.extends })
-  takes_after N.Wrong k t = t ∙ k.size
+  takes_after None k t = t ∙ k.size
 
 pub puts_kept :
     {s run run₁ : List ℕ} {i at n : ℕ} → Puts s run run₁ i (at + 1) n → at < length run → Kept run run₁ at

@@ -1,7 +1,7 @@
 -- Answers that are known: what a walk promises where it went on, and where it gave up.
 --   extends_roomy, set_roomy, run_roomy   room in the run
 --   retaken                               the same value held in another way
-use mathlib.Core.Path.{◌≡◌, subst}
+use mathlib.Core.Path.{◌≡◌, sym, subst}
 use mathlib.Core.List.{List}
 use Prim.Native.Nat.{ℕ, ◌≤◌}
 use native.Mathlib.Omega.{arith}
@@ -12,30 +12,39 @@ use Rattle.syntax.specs.Forms.{Reading}
 use Rattle.parts.specs.Room.{Roomy}
 use Rattle.parts.specs.Holding.{Extends, Laid}
 use Rattle.parts.specs.declared.holding.Ended.{Ended}
-use Rattle.parts.specs.declared.holding.Ended.TheVariants as N
+use Rattle.std.specs.Prelude.{Option, Some, None}
 use Rattle.parts.specs.declared.holding.Listed.{Listed}
-use Rattle.parts.specs.declared.holding.Listed.TheVariants as L
 use Rattle.parts.proofs.Laws.Extends.{extends_within}
 use Rattle.straight.specs.Taking.{Taken, Takes, TakenSeveral, TakesSeveral, TakenMember, TakesMember}
 
 module _ {A : Type 0} (h : A → List ℕ) (n : ℕ) (s run run' : List ℕ) (v at : ℕ) where
   module _ (f : Json → Reading A) where
-    pub takes_past : {r : Ended} {p e : ℕ} → Takes h f n s run run' v at r → r ≡ N.Past p e
-        → Taken h f n s run run' v at p e
+    pub takes_past : {r : Option Ended} {y : Ended} → Takes h f n s run run' v at r → r ≡ Some y
+        → Taken h f n s run run' v at y.past y.end
     takes_past t k = subst (Takes h f n s run run' v at) k t
 
-    pub takes_wrong : {r : Ended} → Takes h f n s run run' v at r → r ≡ N.Wrong → length run' ≡ length run
+    pub takes_wrong : {r : Option Ended} → Takes h f n s run run' v at r → r ≡ None → length run' ≡ length run
     takes_wrong t k = subst (Takes h f n s run run' v at) k t
 
+    -- nothing was taken
+    pub none_takes : {r : Option Ended} → r ≡ None → length run' ≡ length run → Takes h f n s run run' v at r
+    none_takes k t = subst (Takes h f n s run run' v at) (sym k) t
+
   module _ (f : Json → Reading (List A)) where
-    pub several_past : {r : Listed} {p e k : ℕ} → TakesSeveral h f n s run run' v at r → r ≡ L.Several p e k
-        → TakenSeveral h f n s run run' v at p e k
+    pub several_past : {r : Option Listed} {y : Listed} → TakesSeveral h f n s run run' v at r → r ≡ Some y
+        → TakenSeveral h f n s run run' v at y.past y.end y.count
     several_past t k = subst (TakesSeveral h f n s run run' v at) k t
 
+    pub none_several : {r : Option Listed} → r ≡ None → length run' ≡ length run → TakesSeveral h f n s run run' v at r
+    none_several k t = subst (TakesSeveral h f n s run run' v at) (sym k) t
+
   module _ (f : List ℕ → Json → Reading A) where
-    pub member_past : {r : Ended} {p e : ℕ} → TakesMember h f n s run run' v at r → r ≡ N.Past p e
-        → TakenMember h f n s run run' v at p e
+    pub member_past : {r : Option Ended} {y : Ended} → TakesMember h f n s run run' v at r → r ≡ Some y
+        → TakenMember h f n s run run' v at y.past y.end
     member_past t k = subst (TakesMember h f n s run run' v at) k t
+
+    pub none_member : {r : Option Ended} → r ≡ None → length run' ≡ length run → TakesMember h f n s run run' v at r
+    none_member k t = subst (TakesMember h f n s run run' v at) (sym k) t
 
 -- ---- room
 

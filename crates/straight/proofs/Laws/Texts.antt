@@ -10,8 +10,7 @@ use Rattle.text.specs.Json.{Json}
 use Rattle.syntax.specs.Forms.{Reading, symbols_of}
 use Rattle.syntax.specs.Members.{then}
 use Rattle.syntax.specs.Told.{converted}
-use Rattle.syntax.specs.declared.symbols.Converted.{Converted}
-use Rattle.syntax.specs.declared.symbols.Converted.TheVariants as C
+use Rattle.std.specs.Prelude.{Option, Some}
 use Rattle.held.specs.Held.{held_text}
 use Rattle.parts.specs.Room.{Roomy}
 use Rattle.parts.proofs.Laws.Formed.{past_first, past_within, part_told, relaid_by, formed, formed_yes}
@@ -59,9 +58,9 @@ module _ {f : Json → Reading (List ℕ)} {d : ℕ} {s run run' : List ℕ} {v 
       })
 
   -- its escapes resolved
-  module _ (w : Bool) (out : List ℕ) (r : Converted) (n : ℕ)
+  module _ (w : Bool) (out : List ℕ) (r : Option ℕ) (n : ℕ)
       (told : (r, out) ≡ converted (symbols_of w (mid_of (at + 1) (p - (at + 1)) run'))
-      (mid_of (at + 1) (p - (at + 1)) run')) (is : r ≡ C.Count n) where
+      (mid_of (at + 1) (p - (at + 1)) run')) (is : r ≡ Some n) where
     pub symbols_room : at + 1 + n ≤ length run
     symbols_room =
         omega (

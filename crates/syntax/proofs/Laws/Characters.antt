@@ -2,14 +2,14 @@
 use mathlib.Core.Path.{◌≡◌, refl, ap, sym, ◌∙◌}
 use mathlib.Core.Bool.{Bool, true, false, ◌||◌, ◌&&◌, true≢false}
 use mathlib.Core.List.{[], ◌∷◌}
-use Prim.Native.Nat.{ℕ, suc, ◌+◌, ◌≤◌, ◌<◌}
+use Prim.Native.Nat.{ℕ, suc, ◌<◌}
 use native.Mathlib.Omega.{arith}
 use native.Mathlib.Decide.{dec_lt}
 use lib.Dec.{ltb}
 use borrow.Author.Tests.{ne_eqb, lt-ltb, le-ltb}
 use Rattle.chars.specs.Base.{within, one_of}
 use Rattle.chars.proofs.Laws.Tests.{inside, under, over}
-use Rattle.syntax.specs.Forms.{either, is_alphanumeric, is_vendor_char, is_name_char, is_key_char, wildcard, lower}
+use Rattle.syntax.specs.Forms.{either, is_alphanumeric, is_vendor_char, is_name_char, is_key_char, wildcard}
 
 -- ---- letters and digits
 
@@ -60,14 +60,6 @@ module _ (c : ℕ) where
   unfolding is_name_char
   name_rest e = either_none (is_vendor_char c) (one_of (42 ∷ 63 ∷ []) c) e
 
-  either_some : (t u : Bool) → u ≡ true → true ≡ either t u
-  either_some true u e = refl
-  either_some false u e = sym e
-
-  pub name_wild : one_of (42 ∷ 63 ∷ []) c ≡ true → true ≡ is_name_char c
-  unfolding is_name_char
-  name_wild e = either_some (is_vendor_char c) (one_of (42 ∷ 63 ∷ []) c) e
-
   pub key_rest : (c ≡ 45 → ⊥) → (c ≡ 46 → ⊥) → (c ≡ 47 → ⊥) → (c ≡ 58 → ⊥) → (c ≡ 95 → ⊥)
       → is_alphanumeric c ≡ is_key_char c
   unfolding is_key_char one_of
@@ -95,11 +87,3 @@ module _ (c : ℕ) where
   pub wildcard_none : (c ≡ 42 → ⊥) → (c ≡ 63 → ⊥) → c ≡ wildcard c
   unfolding wildcard
   wildcard_none p q = rw (ne_eqb c 42 p, ne_eqb c 63 q)
-
-  pub lower_upper : 65 ≤ c → c < 91 → c + 32 ≡ lower c
-  unfolding lower
-  lower_upper p q = rw (inside 65 90 c p (omega arith))
-
-  pub lower_other : within 65 90 c ≡ false → c ≡ lower c
-  unfolding lower
-  lower_other e = rw e

@@ -8,9 +8,8 @@ use native.Mathlib.Omega.{arith}
 use lib.ListN.{length, get_or, drop, set, length-append, drop_of_length-le}
 use Rattle.chars.specs.Putting.{lay}
 use Rattle.chars.proofs.Laws.Putting.{lay_length, lay_snoc}
-use Rattle.syntax.specs.declared.symbols.Step.{Step}
-use Rattle.syntax.specs.declared.symbols.Step.TheVariants as S
-use Rattle.syntax.specs.declared.symbols.Converted.TheVariants as C
+use Rattle.std.specs.Prelude.{Option, Some, None}
+use Rattle.syntax.specs.declared.symbols.Said.{Said}
 use Rattle.syntax.specs.Forms.{Reading, wrong, read, wildcard, symbol, ahead, symbols_behind, symbols_of}
 use Rattle.syntax.specs.Told.{converted, is_read, NoDollar, Says}
 use Rattle.syntax.proofs.Laws.Symbols.{symbols_plain, says_on, says_text, says_wrong}
@@ -104,10 +103,10 @@ sofar_start w l e =
 
 -- a wrong escape leaves the run as it is
 pub converted_wrong : (w : Bool) (l : List ℕ) → is_read (symbols_of w l) ≡ false
-    → (C.Wrong, l) ≡ converted (symbols_of w l) l
+    → (None, l) ≡ converted (symbols_of w l) l
 converted_wrong w l e = by (symbols_of w l) e
   where
-    by : (t : Reading (List ℕ)) → is_read t ≡ false → (C.Wrong, l) ≡ converted t l
+    by : (t : Reading (List ℕ)) → is_read t ≡ false → (None, l) ≡ converted t l
     by wrong e = refl
     by (read ys) e = cc
 
@@ -121,8 +120,8 @@ module _ {w : Bool} {before after : List ℕ} {i n : ℕ} (p : Sofar w before af
   at : (j : ℕ) → i ≤ j → symbols_of w (drop j before) ≡ symbols_of w (drop j after)
   at j h = ap (symbols_of w) (sym (unread j h))
 
-  module _ {r : Step} (q : Says w after i r) where
-    pub sofar_next : {c past : ℕ} → r ≡ S.Symbol c past → Sofar w before (set after n c) past (n + 1)
+  module _ {r : Option Said} (q : Says w after i r) where
+    pub sofar_next : {c past : ℕ} → r ≡ Some (record { c = c; past = past }) → Sofar w before (set after n c) past (n + 1)
     sofar_next {c} {past} e =
         let on : i < past = says_on q e in
         record {
@@ -138,7 +137,7 @@ module _ {w : Bool} {before after : List ℕ} {i n : ℕ} (p : Sofar w before af
           right = p.right;
         }
 
-    pub sofar_right : r ≡ S.Wrong → ⊥
+    pub sofar_right : r ≡ None → ⊥
     unfolding joined
     sofar_right e =
         let wrongly : symbols_of w before ≡ wrong =
@@ -147,7 +146,7 @@ module _ {w : Bool} {before after : List ℕ} {i n : ℕ} (p : Sofar w before af
         let z : ◌≡◌ {A = ℕ} 0 1 = cc in
         omega arith
 
-  pub sofar_end : length after ≤ i → (C.Count n, after) ≡ converted (symbols_of w before) before
+  pub sofar_end : length after ≤ i → (Some n, after) ≡ converted (symbols_of w before) before
   unfolding joined symbols_behind
   sofar_end h =
       let all : symbols_of w before ≡ read p.said =
@@ -155,7 +154,7 @@ module _ {w : Bool} {before after : List ℕ} {i n : ℕ} (p : Sofar w before af
       ∙ ap (λ (l : List ℕ). joined p.said (symbols_of w l))
       (drop_of_length-le before {i = i} (omega (arith, sofar_length)))
       ∙ ap read (append-nil p.said) in
-      let end : converted (symbols_of w before) before ≡ (C.Count (length p.said), lay p.said before) =
+      let end : converted (symbols_of w before) before ≡ (Some (length p.said), lay p.said before) =
       ap (λ (t : Reading (List ℕ)). converted t before) all in
       cc (end, p.count, p.laid)
 
@@ -183,18 +182,18 @@ map_same [] = refl
 map_same (c ∷ cs) = ap (λ (l : List ℕ). c ∷ l) (map_same cs)
 
 module _ (cs : List ℕ) (n : NoDollar cs) where
-  plain_converted : (w : Bool) → (C.Count (length cs), map (symbol w) cs) ≡ converted (symbols_of w cs) cs
+  plain_converted : (w : Bool) → (Some (length cs), map (symbol w) cs) ≡ converted (symbols_of w cs) cs
   plain_converted w =
       let size = length_mapped (symbol w) cs in
-      let all : converted (symbols_of w cs) cs ≡ (C.Count (length (map (symbol w) cs)), lay (map (symbol w) cs) cs) =
+      let all : converted (symbols_of w cs) cs ≡ (Some (length (map (symbol w) cs)), lay (map (symbol w) cs) cs) =
       ap (λ (t : Reading (List ℕ)). converted t cs) (plain_read w cs n) in
       cc (all, size, lay_all (map (symbol w) cs) cs size)
 
   pub plain_wild : {w : Bool} {after : List ℕ} → w ≡ true → after ≡ map wildcard cs
-      → (C.Count (length after), after) ≡ converted (symbols_of w cs) cs
+      → (Some (length after), after) ≡ converted (symbols_of w cs) cs
   plain_wild {w} {after} e h =
       let size : length after ≡ length cs = ap length h ∙ length_mapped wildcard cs in
       rw (e, size, h) (plain_converted true)
 
-  pub plain_still : {w : Bool} → w ≡ false → (C.Count (length cs), cs) ≡ converted (symbols_of w cs) cs
+  pub plain_still : {w : Bool} → w ≡ false → (Some (length cs), cs) ≡ converted (symbols_of w cs) cs
   plain_still {w} e = rw (e) (cc (plain_converted false, map_same cs))

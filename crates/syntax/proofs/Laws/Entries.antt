@@ -1,7 +1,7 @@
 -- What a caller of `symbols` may take from its answer.
 --   symbols_length    an entry has no more symbols than the characters that say them
 --   converted_count   the answer's first numbers of the run are the symbols
---   converted_none    where the answer is Wrong, an escape is wrong and the run is as it was
+--   converted_none    where the answer is None, an escape is wrong and the run is as it was
 use mathlib.Core.Path.{◌≡◌, refl, ap, sym, ◌∙◌}
 use mathlib.Core.Bool.{Bool, true, false}
 use mathlib.Core.List.{List, [], ◌∷◌}
@@ -12,8 +12,7 @@ use lib.ListN.{length, get_or, take}
 use Rattle.chars.specs.Base.{pick, one_of}
 use Rattle.chars.specs.Putting.{lay}
 use Rattle.chars.proofs.Laws.Putting.{lay_length}
-use Rattle.syntax.specs.declared.symbols.Converted.{Converted}
-use Rattle.syntax.specs.declared.symbols.Converted.TheVariants as C
+use Rattle.std.specs.Prelude.{Option, Some, None}
 use Rattle.syntax.specs.Forms.{Reading, wrong, read, both, ahead, symbol, symbols_behind, symbols_of}
 use Rattle.syntax.specs.Told.{converted}
 
@@ -49,36 +48,36 @@ lay_take [] out h = refl
 lay_take (y ∷ ys) [] h = absurd (omega arith)
 lay_take (y ∷ ys) (o ∷ out) h = ap (λ (l : List ℕ). y ∷ l) (lay_take ys out (omega arith))
 
-count_wrong : {r : Converted} {n : ℕ} → r ≡ C.Count n → r ≡ C.Wrong → ⊥
+count_wrong : {r : Option ℕ} {n : ℕ} → r ≡ Some n → r ≡ None → ⊥
 count_wrong p q = let z : ◌≡◌ {A = ℕ} 0 1 = cc in omega arith
 
-module _ (w : Bool) (run after : List ℕ) (r : Converted) (told : (r, after) ≡ converted (symbols_of w run) run) where
-  pub converted_count : {n : ℕ} → r ≡ C.Count n → symbols_of w run ≡ read (take n after)
+module _ (w : Bool) (run after : List ℕ) (r : Option ℕ) (told : (r, after) ≡ converted (symbols_of w run) run) where
+  pub converted_count : {n : ℕ} → r ≡ Some n → symbols_of w run ≡ read (take n after)
   converted_count {n} k = by (symbols_of w run) refl told
     where
       by : (t : Reading (List ℕ)) → symbols_of w run ≡ t → (r, after) ≡ converted t run
           → symbols_of w run ≡ read (take n after)
-      by wrong e q = absurd (count_wrong k (ap (λ (p : Converted × List ℕ). p.0) q))
+      by wrong e q = absurd (count_wrong k (ap (λ (p : Option ℕ × List ℕ). p.0) q))
       by (read ys) e q =
-          let count : C.Count n ≡ C.Count (length ys) = sym k ∙ ap (λ (p : Converted × List ℕ). p.0) q in
+          let count : Some n ≡ Some (length ys) = sym k ∙ ap (λ (p : Option ℕ × List ℕ). p.0) q in
           let many : n ≡ length ys = cc in
-          let laid : after ≡ lay ys run = ap (λ (p : Converted × List ℕ). p.1) q in
+          let laid : after ≡ lay ys run = ap (λ (p : Option ℕ × List ℕ). p.1) q in
           let taken : take n after ≡ ys =
           ap (λ (m : ℕ). take m after) many ∙ ap (take (length ys)) laid
           ∙ lay_take ys run (symbols_length w run ys e) in
           e ∙ ap read (sym taken)
 
-  pub converted_none : r ≡ C.Wrong → (symbols_of w run ≡ wrong) × (after ≡ run)
+  pub converted_none : r ≡ None → (symbols_of w run ≡ wrong) × (after ≡ run)
   converted_none k = by (symbols_of w run) refl told
     where
       by : (t : Reading (List ℕ)) → symbols_of w run ≡ t → (r, after) ≡ converted t run
           → (symbols_of w run ≡ wrong) × (after ≡ run)
-      by wrong e q = (e, ap (λ (p : Converted × List ℕ). p.1) q)
-      by (read ys) e q = absurd (count_wrong (ap (λ (p : Converted × List ℕ). p.0) q) k)
+      by wrong e q = (e, ap (λ (p : Option ℕ × List ℕ). p.1) q)
+      by (read ys) e q = absurd (count_wrong (ap (λ (p : Option ℕ × List ℕ). p.0) q) k)
 
   pub converted_length : length after ≡ length run
   converted_length = by (symbols_of w run) told
     where
       by : (t : Reading (List ℕ)) → (r, after) ≡ converted t run → length after ≡ length run
-      by wrong q = ap (λ (p : Converted × List ℕ). length p.1) q
-      by (read ys) q = ap (λ (p : Converted × List ℕ). length p.1) q ∙ lay_length ys run
+      by wrong q = ap (λ (p : Option ℕ × List ℕ). length p.1) q
+      by (read ys) q = ap (λ (p : Option ℕ × List ℕ). length p.1) q ∙ lay_length ys run

@@ -1,18 +1,19 @@
 -- Actions, Sids and keys, one character at a time.
 use mathlib.Core.Path.{◌≡◌, refl, ap, sym, ◌∙◌}
-use mathlib.Core.Bool.{Bool, true, false}
+use mathlib.Core.Bool.{Bool, true, false, ◌&&◌}
+use Rattle.std.specs.List.{list_all}
 use mathlib.Core.List.{List, [], ◌∷◌}
-use Prim.Native.Nat.{ℕ, ◌+◌, ◌≤◌, ◌<◌}
+use Prim.Native.Nat.{ℕ, ◌+◌, ◌-◌, ◌≤◌, ◌<◌}
 use native.Mathlib.Numerals.{add-one}
 use native.Mathlib.Omega.{arith}
 use lib.Dec.{eqb}
-use lib.ListN.{length, get_or, drop, length-drop, drop_of_length-le}
-use lib.Seq.{drop-cons}
+use lib.ListN.{length, get_or, take, drop, length-drop, drop_of_length-le}
+use lib.Seq.{drop-cons, take_all}
 use borrow.Author.Tests.{eq-eqb, ne_eqb, lt-ltb, le-leb, lt-leb}
 use Rattle.chars.specs.Base.{pick}
 use Rattle.syntax.specs.Limits.{sid_characters}
-use Rattle.syntax.specs.Forms.{all, same, is_alphanumeric, is_vendor_char, is_name_char, is_name}
-use Rattle.syntax.specs.Forms.{is_vendor_tail, is_vendor, is_action, is_sid, is_key_char, is_key}
+use Rattle.syntax.specs.Forms.{both, all, same, is_alphanumeric, is_vendor_char, is_name_char, is_name}
+use Rattle.syntax.specs.Forms.{is_vendor_tail, is_vendor, is_sid, is_key_char, is_key}
 
 -- a list from a place on
 pub drop_next : (cs : List ℕ) (i : ℕ) → i < length cs → drop i cs ≡ get_or cs i 0 ∷ drop (i + 1) cs
@@ -30,6 +31,24 @@ module _ (f : ℕ → Bool) (cs : List ℕ) (i : ℕ) where
   pub all_end : length cs ≤ i → all f (drop i cs) ≡ true
   unfolding all
   all_end h = ap (all f) (drop_of_length-le cs h)
+
+-- ---- as the library's `all` tests them
+
+pub and_both : (t u : Bool) → (t && u) ≡ both t u
+and_both true u = refl
+and_both false u = refl
+
+pub all_listed : (f : ℕ → Bool) (cs : List ℕ) → list_all f cs ≡ all f cs
+unfolding all
+all_listed f [] = refl
+all_listed f (c ∷ cs) = ap (λ (t : Bool). f c && t) (all_listed f cs) ∙ and_both (f c) (all f cs)
+
+-- what is lent from a place on
+pub rest_all : (cs : List ℕ) (i : ℕ) → take (length cs - i) (drop i cs) ≡ drop i cs
+rest_all cs i = take_all (length cs - i) (drop i cs) (omega (arith, length-drop i cs))
+
+pub rest_listed : (f : ℕ → Bool) (cs : List ℕ) (i : ℕ) → list_all f (take (length cs - i) (drop i cs)) ≡ all f (drop i cs)
+rest_listed f cs i = ap (list_all f) (rest_all cs i) ∙ all_listed f (drop i cs)
 
 -- ---- actions
 
@@ -100,15 +119,6 @@ only_is [] x h = absurd (omega arith)
 only_is (c ∷ []) x h = plain (eqb c x)
 only_is (c ∷ d ∷ cs) x h = absurd (omega arith)
 
-module _ (cs : List ℕ) where
-  pub action_star : same cs (42 ∷ []) ≡ true → true ≡ is_action cs
-  unfolding is_action
-  action_star e = rw e
-
-  pub action_vendor : same cs (42 ∷ []) ≡ false → is_vendor cs ≡ is_action cs
-  unfolding is_action
-  action_vendor e = rw e
-
 -- ---- Sids and keys
 
 pub sid_none : (cs : List ℕ) → length cs ≡ 0 → is_sid cs ≡ false
@@ -136,3 +146,6 @@ pub key_none : (cs : List ℕ) → length cs ≡ 0 → is_key cs ≡ false
 unfolding is_key
 key_none [] h = refl
 key_none (c ∷ cs) h = absurd (omega arith)
+
+pub key_listed : (cs : List ℕ) → (length cs ≡ 0 → ⊥) → list_all is_key_char cs ≡ is_key cs
+key_listed cs h = all_listed is_key_char cs ∙ sym (key_some cs h)

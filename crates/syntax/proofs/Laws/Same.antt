@@ -1,15 +1,17 @@
 -- Texts and keys compared: `same` is equality, and `same_key` is `same` of the keys in small letters.
 use mathlib.Core.Path.{◌≡◌, refl, ap, sym, ◌∙◌}
-use mathlib.Core.Bool.{Bool, true, false}
+use mathlib.Core.Bool.{Bool, true, false, ◌&&◌}
+use lib.Pointwise.{pointwise}
+use Rattle.std.specs.List.{list_all, zip}
 use mathlib.Core.List.{List, [], ◌∷◌, map}
-use Prim.Native.Nat.{ℕ, suc, ◌+◌, ◌≤◌, ◌<◌}
+use Prim.Native.Nat.{ℕ, suc}
 use native.Mathlib.Omega.{arith}
 use lib.Dec.{eqb}
-use lib.ListN.{length, get_or, drop, drop_of_length-le, length-map, get_or-map}
-use borrow.Author.Tests.{eq-eqb, ne_eqb, eqb-true}
+use lib.ListN.{length, length-map}
+use borrow.Author.Tests.{eq-eqb, eqb-true}
 use Rattle.chars.specs.Base.{pick}
 use Rattle.syntax.specs.Forms.{both, same, lower, same_key}
-use Rattle.syntax.proofs.Laws.Forms.{drop_next}
+use Rattle.syntax.proofs.Laws.Forms.{and_both}
 
 never : (t : Bool) → pick t false false ≡ false
 never true = refl
@@ -22,23 +24,14 @@ same_lengths [] (y ∷ b) h = refl
 same_lengths (x ∷ a) [] h = refl
 same_lengths (x ∷ a) (y ∷ b) h = rw (same_lengths a b (λ e. h (ap suc e))) (never (eqb x y))
 
-module _ (a b : List ℕ) (i : ℕ) where
-  here : i < length a → i < length b
-      → same (drop i a) (drop i b) ≡ same (get_or a i 0 ∷ drop (i + 1) a) (get_or b i 0 ∷ drop (i + 1) b)
-  here h k = rw (drop_next a i h, drop_next b i k)
-
-  pub same_next : i < length a → i < length b → get_or a i 0 ≡ get_or b i 0
-      → same (drop i a) (drop i b) ≡ same (drop (i + 1) a) (drop (i + 1) b)
-  unfolding same
-  same_next h k e = here h k ∙ rw (eq-eqb (get_or a i 0) (get_or b i 0) e)
-
-  pub same_stop : i < length a → i < length b → (get_or a i 0 ≡ get_or b i 0 → ⊥) → same (drop i a) (drop i b) ≡ false
-  unfolding same
-  same_stop h k n = here h k ∙ rw (ne_eqb (get_or a i 0) (get_or b i 0) n)
-
-  pub same_end : length a ≤ i → length b ≤ i → same (drop i a) (drop i b) ≡ true
-  unfolding same
-  same_end h k = rw (drop_of_length-le a {i = i} h, drop_of_length-le b {i = i} k)
+-- `==` of two slices
+pub same_pointwise : (a b : List ℕ) → pointwise eqb a b ≡ same a b
+unfolding same
+same_pointwise [] [] = refl
+same_pointwise [] (y ∷ b) = refl
+same_pointwise (x ∷ a) [] = refl
+same_pointwise (x ∷ a) (y ∷ b) =
+    ap (λ (t : Bool). eqb x y && t) (same_pointwise a b) ∙ and_both (eqb x y) (same a b)
 
 -- ---- equality
 
@@ -79,10 +72,6 @@ key_lengths k l h =
     key_same k l
     ∙ same_lengths (map lower k) (map lower l) (λ e. h (sym (length-map k lower) ∙ e ∙ length-map l lower))
 
-pub lower_at : (k : List ℕ) (i : ℕ) → get_or (map lower k) i 0 ≡ lower (get_or k i 0)
-unfolding lower
-lower_at k i = get_or-map lower k i 0
-
 pub key_refl : (k : List ℕ) → same_key k k ≡ true
 key_refl k = key_same k k ∙ same_refl (map lower k)
 
@@ -95,33 +84,15 @@ key_trans k l m e f =
     let q = same_sound (map lower l) (map lower m) (sym (key_same l m) ∙ f) in
     key_same k m ∙ same_complete (p ∙ q)
 
--- what the comparison of two keys keeps
-pub record Keys (k l : List ℕ) (i : ℕ) : Type 0 where
-  pub is : same_key k l ≡ same (drop i (map lower k)) (drop i (map lower l))
-  pub even : length k ≡ length l
+-- two keys of one length, character beside character
+abbrev pub same_lower : ℕ × ℕ → Bool
+same_lower p = eqb (lower p.0) (lower p.1)
 
-pub keys_start : (k l : List ℕ) → length k ≡ length l → Keys k l 0
-keys_start k l e = record { is = key_same k l; even = e }
-
-module _ {k l : List ℕ} {i : ℕ} (p : Keys k l i) where
-  pub keys_next : i < length k → lower (get_or k i 0) ≡ lower (get_or l i 0) → Keys k l (i + 1)
-  keys_next h e =
-      record {
-        is =
-            p.is
-            ∙ same_next (map lower k) (map lower l) i (omega (arith, length-map k lower))
-            (omega (arith, length-map l lower, p.even)) (lower_at k i ∙ e ∙ sym (lower_at l i));
-        even = p.even;
-      }
-
-  pub keys_stop : i < length k → (lower (get_or k i 0) ≡ lower (get_or l i 0) → ⊥) → same_key k l ≡ false
-  keys_stop h n =
-      p.is
-      ∙ same_stop (map lower k) (map lower l) i (omega (arith, length-map k lower))
-      (omega (arith, length-map l lower, p.even)) (λ e. n (sym (lower_at k i) ∙ e ∙ lower_at l i))
-
-  pub keys_end : length k ≤ i → same_key k l ≡ true
-  keys_end h =
-      p.is
-      ∙ same_end (map lower k) (map lower l) i (omega (arith, length-map k lower))
-      (omega (arith, length-map l lower, p.even))
+pub keys_listed : (k l : List ℕ) → length k ≡ length l → list_all same_lower (zip k l) ≡ same_key k l
+unfolding same_key
+keys_listed [] [] e = refl
+keys_listed [] (y ∷ l) e = absurd (omega arith)
+keys_listed (x ∷ k) [] e = absurd (omega arith)
+keys_listed (x ∷ k) (y ∷ l) e =
+    ap (λ (t : Bool). eqb (lower x) (lower y) && t) (keys_listed k l (omega arith))
+    ∙ and_both (eqb (lower x) (lower y)) (same_key k l)

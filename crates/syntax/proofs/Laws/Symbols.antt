@@ -10,8 +10,8 @@ use lib.ListN.{length, get_or, drop, drop_of_length-le, get_or-eq_default}
 use lib.Seq.{drop-drop, get_or-drop}
 use borrow.Author.Tests.{eq-eqb, ne_eqb}
 use Rattle.chars.specs.Base.{one_of}
-use Rattle.syntax.specs.declared.symbols.Step.{Step}
-use Rattle.syntax.specs.declared.symbols.Step.TheVariants as S
+use Rattle.std.specs.Prelude.{Option, Some, None}
+use Rattle.syntax.specs.declared.symbols.Said.{Said}
 use Rattle.syntax.specs.Forms.{Reading, wrong, read, both, wildcard, symbol, ahead, symbols_behind, symbols_of}
 use Rattle.syntax.specs.Told.{is_read, Opened, onward, past_of, Says}
 use Rattle.syntax.proofs.Laws.Forms.{drop_next}
@@ -70,7 +70,7 @@ module _ (w : Bool) (cs : List ℕ) (i : ℕ) where
   behind h k = ap (λ (l : List ℕ). get_or l (suc k) 0) (drop_next cs i h)
 
   pub says_plain : {x : ℕ} → i < length cs → (get_or cs i 0 ≡ 36 → ⊥) → x ≡ symbol w (get_or cs i 0)
-      → Says w cs i (S.Symbol x (i + 1))
+      → Says w cs i (Some (record { c = x; past = (i + 1) }))
   says_plain {x} h n e =
       record {
         text =
@@ -81,7 +81,7 @@ module _ (w : Bool) (cs : List ℕ) (i : ℕ) where
       }
 
   pub says_dollar : {x : ℕ} → i < length cs → (get_or (drop i cs) 1 0 ≡ 123 → ⊥) → x ≡ symbol w (get_or cs i 0)
-      → Says w cs i (S.Symbol x (i + 1))
+      → Says w cs i (Some (record { c = x; past = (i + 1) }))
   says_dollar {x} h n e =
       record {
         text =
@@ -96,7 +96,7 @@ module _ (w : Bool) (cs : List ℕ) (i : ℕ) where
     open_brace : get_or (drop (i + 1) cs) 0 0 ≡ 123
     open_brace = sym (behind p.inside 0) ∙ p.brace
 
-    wrong_here : symbols_of w (get_or cs i 0 ∷ drop (i + 1) cs) ≡ wrong → Says w cs i S.Wrong
+    wrong_here : symbols_of w (get_or cs i 0 ∷ drop (i + 1) cs) ≡ wrong → Says w cs i None
     wrong_here e =
         record {
           text = ap (symbols_of w) (drop_next cs i p.inside) ∙ e;
@@ -104,12 +104,12 @@ module _ (w : Bool) (cs : List ℕ) (i : ℕ) where
           inside = omega (arith, p.inside);
         }
 
-    pub says_unclosed : (get_or (drop i cs) 3 0 ≡ 125 → ⊥) → Says w cs i S.Wrong
+    pub says_unclosed : (get_or (drop i cs) 3 0 ≡ 125 → ⊥) → Says w cs i None
     says_unclosed n =
         wrong_here
         (symbols_unclosed w (get_or cs i 0) (drop (i + 1) cs) p.dollar open_brace (λ z. n (behind p.inside 2 ∙ z)))
 
-    pub says_unknown : one_of known (get_or (drop i cs) 2 0) ≡ false → Says w cs i S.Wrong
+    pub says_unknown : one_of known (get_or (drop i cs) 2 0) ≡ false → Says w cs i None
     says_unknown k =
         wrong_here
         (symbols_unknown w (get_or cs i 0) (drop (i + 1) cs) p.dollar open_brace
@@ -125,7 +125,7 @@ module _ (w : Bool) (cs : List ℕ) (i : ℕ) where
             absurd (omega (arith, sym (get_or-drop i cs 3 0) ∙ e, out))
 
     pub says_escape : {x : ℕ} → get_or (drop i cs) 3 0 ≡ 125 → x ≡ get_or (drop i cs) 2 0 → one_of known x ≡ true
-        → Says w cs i (S.Symbol x (i + 4))
+        → Says w cs i (Some (record { c = x; past = (i + 4) }))
     says_escape {x} e f k =
         let same : x ≡ get_or (drop (i + 1) cs) 1 0 = f ∙ behind p.inside 1 in
         let far : i + 1 + 3 ≡ i + 4 = omega arith in
@@ -141,15 +141,15 @@ module _ (w : Bool) (cs : List ℕ) (i : ℕ) where
           inside = closed_inside e;
         }
 
-module _ {w : Bool} {cs : List ℕ} {i : ℕ} {r : Step} (p : Says w cs i r) where
-  pub says_on : {c past : ℕ} → r ≡ S.Symbol c past → i < past
-  says_on {c} {past} e = omega (arith, p.on, ap (λ (s : Step). past_of s i) e)
+module _ {w : Bool} {cs : List ℕ} {i : ℕ} {r : Option Said} (p : Says w cs i r) where
+  pub says_on : {c past : ℕ} → r ≡ Some (record { c = c; past = past }) → i < past
+  says_on {c} {past} e = omega (arith, p.on, ap (λ (s : Option Said). past_of s i) e)
 
-  pub says_text : {c past : ℕ} → r ≡ S.Symbol c past → symbols_of w (drop i cs) ≡ ahead c (symbols_of w (drop past cs))
-  says_text e = p.text ∙ ap (λ (s : Step). onward s w cs) e
+  pub says_text : {c past : ℕ} → r ≡ Some (record { c = c; past = past }) → symbols_of w (drop i cs) ≡ ahead c (symbols_of w (drop past cs))
+  says_text e = p.text ∙ ap (λ (s : Option Said). onward s w cs) e
 
-  pub says_wrong : r ≡ S.Wrong → symbols_of w (drop i cs) ≡ wrong
-  says_wrong e = p.text ∙ ap (λ (s : Step). onward s w cs) e
+  pub says_wrong : r ≡ None → symbols_of w (drop i cs) ≡ wrong
+  says_wrong e = p.text ∙ ap (λ (s : Option Said). onward s w cs) e
 
   -- ---- looking at all escapes
 
@@ -158,11 +158,11 @@ module _ {w : Bool} {cs : List ℕ} {i : ℕ} {r : Step} (p : Says w cs i r) whe
   read_ahead c wrong = refl
   read_ahead c (read ys) = refl
 
-  pub right_next : {c past : ℕ} → r ≡ S.Symbol c past
+  pub right_next : {c past : ℕ} → r ≡ Some (record { c = c; past = past })
       → is_read (symbols_of w (drop i cs)) ≡ is_read (symbols_of w (drop past cs))
   right_next e = ap is_read (says_text e) ∙ read_ahead _ _
 
-  pub right_stop : r ≡ S.Wrong → is_read (symbols_of w (drop i cs)) ≡ false
+  pub right_stop : r ≡ None → is_read (symbols_of w (drop i cs)) ≡ false
   right_stop e = ap is_read (says_wrong e)
 
 pub right_end : (w : Bool) (cs : List ℕ) (i : ℕ) → length cs ≤ i → is_read (symbols_of w (drop i cs)) ≡ true

@@ -16,7 +16,7 @@ use Rattle.text.specs.Machine.{Item, Move, pass, go, ws, byte, text, value, firs
 use Rattle.text.specs.Machine.{feed, ends, verdict_at}
 use Rattle.text.specs.Machine as M
 use Rattle.text.specs.Reading.{Done}
-use Rattle.text.specs.declared.verdict.Verdict.TheVariants.{Whole}
+use Rattle.std.specs.Prelude.{Ok}
 use Rattle.text.specs.declared.scan.Shape.{Shape}
 use Rattle.text.specs.declared.scan.Shape.TheVariants.{List as a_list, Object as an_object}
 use Rattle.text.proofs.Laws.Reading.{takes_at, seq, frame, alike, from_empty}
@@ -176,7 +176,7 @@ shut_done (suc n) shut_object (some_object o w r) h =
     let v = members_start r in open_done an_object n 34 o w v refl (enter_object n v (reads_done n r (omega arith) tt))
 
 -- a JSON text of at most n levels is whole for the twin
-pub text_complete : (n : ℕ) (s : List ℕ) → Text n s → verdict_at n s ≡ Whole
+pub text_complete : (n : ℕ) (s : List ℕ) → Text n s → verdict_at n s ≡ Ok tt
 unfolding verdict_at ends
 text_complete n s t =
     let p = t.says in

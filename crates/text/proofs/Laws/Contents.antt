@@ -8,11 +8,12 @@ use Rattle.chars.specs.Base.{part}
 use Rattle.text.specs.Json.{Json, Values, Members, null, string, levels, Quoted, a_value, Reads, a_string}
 use Rattle.text.specs.Json.{JsonText}
 use Rattle.text.specs.Machine.{Item, ws, byte, text, value, verdict}
-use Rattle.text.specs.Reading.{Leads, Done, Falls}
-use Rattle.text.specs.Verdicts.{Text}
+use Rattle.text.specs.Reading.{Leads, Done, Falls, Goes}
+use Rattle.text.specs.Verdicts.{Verdict, Text}
 use Rattle.text.specs.Contents.{Stands, Rest, Others, Raw, Rooted}
-use Rattle.text.specs.declared.verdict.Verdict.{Verdict}
-use Rattle.text.specs.declared.verdict.Verdict.TheVariants.{Whole, Breaks, Deep}
+use Rattle.std.specs.Prelude.{Result, Ok, Err}
+use Rattle.std.specs.Result.{result_unwrap_or}
+use Rattle.text.specs.declared.fault.Fault.{Fault}
 use Rattle.text.proofs.Laws.Reading.{takes, fall_frame}
 use Rattle.text.proofs.Laws.Moves.Values.{value_text}
 use Rattle.text.proofs.Laws.Places.{done_alive, alive_fall, done_unique, not_whole, value_grows}
@@ -33,8 +34,13 @@ pub stands_done : {s : List ℕ} {t : Json} {v e : ℕ} → Stands s t v e → D
 stands_done p = reads_done levels p.reads p.shallow p.ends
 
 -- what is done does not fail
-pub done_fall : {s : List ℕ} {a e : ℕ} {v : Verdict} (xs : List Item) → Done s xs a e → Falls s xs a v → ⊥
+pub done_fall : {s : List ℕ} {a e : ℕ} {v : Fault} (xs : List Item) → Done s xs a e → Falls s xs a v → ⊥
 done_fall {s} {a} {e} xs d f = alive_fall (done_alive d) (fall_frame (map byte (drop e s)) f)
+
+pub leaf_end : {s : List ℕ} {t : Json} {v e : ℕ} (r : Result ℕ Fault) (other : ℕ) → Goes s (value levels ∷ []) v r
+    → Stands s t v e → result_unwrap_or r other ≡ e
+leaf_end (Ok n) other g p = done_unique (value levels ∷ []) g (stands_done p)
+leaf_end (Err f) other g p = absurd (done_fall (value levels ∷ []) (stands_done p) g)
 
 pub stands_inside : {s : List ℕ} {t : Json} {v e : ℕ} → Stands s t v e → v < length s
 stands_inside p = (value_starts p.reads).at.inside
@@ -82,7 +88,7 @@ text_stands s i d x =
     let z = space_is d p.before b.at b.black in
     record { reads = moved (a_value x.tree) z p.reads; ends = ends_after p.after; shallow = x.shallow }
 
-pub root_is : (s : List ℕ) (i : ℕ) → verdict s ≡ Whole → Done s (ws ∷ []) 0 i → Rooted s i
+pub root_is : (s : List ℕ) (i : ℕ) → verdict s ≡ Ok tt → Done s (ws ∷ []) 0 i → Rooted s i
 root_is s i e d =
     let x = text_sound levels s e in
     record { stop = x.says.past; stands = λ t p. rw (text_unique s x.tree t x.says p) at (text_stands s i d x) }
@@ -90,24 +96,22 @@ root_is s i e d =
 -- ---- the tree as a function: null where the text is not whole
 
 by_verdict_lem : (s : List ℕ) (v : Verdict) → verdict s ≡ v → Json
-by_verdict_lem s Whole e = (text_sound levels s e).tree
-by_verdict_lem s (Breaks p) e = null
-by_verdict_lem s Deep e = null
+by_verdict_lem s (Ok x) e = (text_sound levels s e).tree
+by_verdict_lem s (Err f) e = null
 
 pub contents : List ℕ → Json
 contents s = by_verdict_lem s (verdict s) refl
 
-by_says : (s : List ℕ) (v : Verdict) (e : verdict s ≡ v) → v ≡ Whole → JsonText s (by_verdict_lem s v e)
+by_says : (s : List ℕ) (v : Verdict) (e : verdict s ≡ v) → v ≡ Ok tt → JsonText s (by_verdict_lem s v e)
 unfolding by_verdict_lem
-by_says s Whole e w = (text_sound levels s e).says
-by_says s (Breaks p) e w = absurd (not_whole (Breaks p) tt w)
-by_says s Deep e w = absurd (not_whole Deep tt w)
+by_says s (Ok x) e w = (text_sound levels s e).says
+by_says s (Err f) e w = absurd (not_whole w)
 
-pub contents_says : (s : List ℕ) → verdict s ≡ Whole → JsonText s (contents s)
+pub contents_says : (s : List ℕ) → verdict s ≡ Ok tt → JsonText s (contents s)
 unfolding contents
 contents_says s e = by_says s (verdict s) refl e
 
-pub contents_is : (s : List ℕ) (t : Json) → verdict s ≡ Whole → JsonText s t → contents s ≡ t
+pub contents_is : (s : List ℕ) (t : Json) → verdict s ≡ Ok tt → JsonText s t → contents s ≡ t
 contents_is s t e p = text_unique s (contents s) t (contents_says s e) p
 
 -- ---- places inside the text

@@ -13,8 +13,9 @@ use Rattle.text.specs.Machine.{high, leads, owing, opens, move_integer, move_exp
 use Rattle.text.specs.Machine.{optional, onto, feed, ends, after, run, from, verdict_at}
 use Rattle.text.specs.declared.scan.Shape.{Shape}
 use Rattle.text.specs.declared.scan.Shape.TheVariants.{List as list, Object as object}
-use Rattle.text.specs.declared.verdict.Verdict.{Verdict}
-use Rattle.text.specs.declared.verdict.Verdict.TheVariants.{Deep}
+use Rattle.std.specs.Prelude.{Err}
+use Rattle.text.specs.Verdicts.{Verdict}
+use Rattle.text.specs.declared.fault.Fault.TheVariants.{Deep}
 use Rattle.text.proofs.Laws.Moves.Values.{first_close}
 use Rattle.text.proofs.Laws.Live.{Lax, l_ws, l_digits, l_fraction, l_exponent, Shut, s_byte, s_range, s_hex}
 use Rattle.text.proofs.Laws.Live.{s_text, s_escape, s_digit, s_sign, s_first, s_next, Calm, calm_close}
@@ -174,7 +175,7 @@ kin_end (a_value c g) = refl
 
 -- ---- text by text
 
-module _ (v : Verdict) (other : Deep ≡ v → ⊥) where
+module _ (v : Verdict) (other : Err Deep ≡ v → ⊥) where
   more_on : {m n : Move} (f : List Item → Verdict) (at : ℕ) → Keeps m n
       → ((k l : List Item) (w : List ℕ) → Kin k l w → f k ≡ v → f l ≡ v) → after m at f ≡ v → after n at f ≡ v
   more_on f at both_pass r e = e

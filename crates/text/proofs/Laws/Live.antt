@@ -12,7 +12,7 @@ use Rattle.text.specs.Machine.{exponent, sign, value, first, next, close, inner,
 use Rattle.text.specs.Machine.{feed, ends, run}
 use Rattle.text.specs.declared.scan.Shape.{Shape}
 use Rattle.text.specs.declared.scan.Shape.TheVariants.{List as list, Object as object}
-use Rattle.text.specs.declared.verdict.Verdict.TheVariants.{Whole}
+use Rattle.std.specs.Prelude.{Ok}
 use Rattle.text.proofs.Laws.Moves.Bytes.{byte_is}
 use Rattle.text.proofs.Laws.Moves.Values.{first_close, next_close}
 
@@ -75,7 +75,7 @@ calm_close sh = at_byte (quiet_close sh)
 -- ---- bytes that finish a stack
 
 pub record Ends (k : List Item) (w : List ℕ) : Type 0 where
-  pub whole : (at : ℕ) → run k w at ≡ Whole
+  pub whole : (at : ℕ) → run k w at ≡ Ok tt
 
 lax_optional : {x : Item} → Lax x → optional x ≡ true
 unfolding optional

@@ -3,8 +3,7 @@ use mathlib.Core.Path.{◌≡◌}
 use mathlib.Core.List.{List}
 use Prim.Native.Nat.{ℕ}
 use Rattle.text.specs.Machine.{verdict}
-use Rattle.text.specs.Verdicts.{Means}
-use Rattle.text.specs.declared.verdict.Verdict.{Verdict}
+use Rattle.text.specs.Verdicts.{Verdict, Means}
 use Rattle.text.proofs.Laws.Verdict as V1
 use Rattle.text.proofs.Laws.Complete.{text_complete}
 use Rattle.text.proofs.Laws.Sound.{text_sound}

@@ -1,53 +1,55 @@
 -- Where the twin's items are done: at one place, and past the byte that they took.
-use mathlib.Core.Path.{◌≡◌, refl, sym, ap, ◌∙◌, subst}
+use mathlib.Core.Path.{◌≡◌, refl, sym, ap, ◌∙◌}
 use mathlib.Core.Bool.{Bool, true, false}
 use mathlib.Core.List.{List, [], ◌∷◌, ◌++◌, map, append-nil}
 use Prim.Native.Nat.{ℕ, ◌+◌, ◌≤◌, ◌<◌}
 use native.Mathlib.Omega.{arith}
-use native.Mathlib.Decide.{dec_lt}
+use native.Mathlib.Decide.{dec_lt, ℕ_discrete}
 use lib.Dec.{eqb}
 use lib.ListN.{length, get_or, drop}
-use Rattle.chars.specs.Base.{pick}
+use Rattle.chars.specs.Base.{pick, At}
 use Rattle.text.specs.Machine.{Item, Move, pass, bad, deep, go, byte, range, text, char, move, optional, owing}
 use Rattle.text.specs.Machine.{feed, ends, after, run, from, value}
-use Rattle.text.specs.Reading.{Leads, Done, Falls, Fault}
-use Rattle.text.specs.declared.verdict.Verdict.{Verdict}
-use Rattle.text.specs.declared.verdict.Verdict.TheVariants.{Whole, Breaks, Deep}
+use Rattle.text.specs.Reading.{Leads, Done, Falls}
+use Rattle.std.specs.Prelude.{Ok, Err}
+use Rattle.text.specs.Verdicts.{Verdict}
+use Rattle.text.specs.declared.fault.Fault.{Fault}
+use Rattle.text.specs.declared.fault.Fault.TheVariants.{Breaks, Deep}
 use Rattle.text.proofs.Laws.Reading.{from_cons, takes, refuses, sinks, stops}
 use Rattle.text.proofs.Laws.Moves.Owing.{Firm, char_firm, value_firm}
-use Rattle.text.proofs.Laws.Moves.Bytes.{byte_is, range_under, range_over}
+use Rattle.text.proofs.Laws.Moves.Bytes.{byte_is, byte_not, range_under, range_over}
 
--- a verdict that is a fault is not Whole
-pub not_whole : (v : Verdict) → Fault v → v ≡ Whole → ⊥
-not_whole v f e = subst Fault e f
+-- a fault is not a whole text
+pub not_whole : {f : Fault} → ◌≡◌ {A = Verdict} (Err f) (Ok tt) → ⊥
+not_whole e = let z : ◌≡◌ {A = ℕ} 0 1 = cc in omega arith
 
-pub same_break : {n m : ℕ} → Breaks n ≡ Breaks m → n ≡ m
+pub same_break : {n m : ℕ} → ◌≡◌ {A = Verdict} (Err (Breaks n)) (Err (Breaks m)) → n ≡ m
 same_break e = cc
 
-pub deep_breaks : {n : ℕ} → Deep ≡ Breaks n → ⊥
+pub deep_breaks : {n : ℕ} → ◌≡◌ {A = Verdict} (Err Deep) (Err (Breaks n)) → ⊥
 deep_breaks e = let z : ◌≡◌ {A = ℕ} 0 1 = cc in omega arith
 
 -- ---- a text does not break before where it is read
 
-late_end : (t : Bool) {at p : ℕ} → pick t Whole (Breaks at) ≡ Breaks p → at ≤ p
-late_end true {at} {p} e = absurd (not_whole (Breaks p) tt (sym e))
+late_end : (t : Bool) {at p : ℕ} → ◌≡◌ {A = Verdict} (pick t (Ok tt) (Err (Breaks at))) (Err (Breaks p)) → at ≤ p
+late_end true {at} {p} e = absurd (not_whole (sym e))
 late_end false e = let q = same_break e in omega arith
 
-late_on : (m : Move) (f : List Item → Verdict) {at p : ℕ} → ((l : List Item) → f l ≡ Breaks p → at + 1 ≤ p)
-    → after m at f ≡ Breaks p → at ≤ p
+late_on : (m : Move) (f : List Item → Verdict) {at p : ℕ} → ((l : List Item) → f l ≡ Err (Breaks p) → at + 1 ≤ p)
+    → after m at f ≡ Err (Breaks p) → at ≤ p
 late_on pass f r e = let q = same_break e in omega arith
 late_on bad f r e = let q = same_break e in omega arith
 late_on deep f r e = absurd (deep_breaks e)
 late_on (go l) f r e = let q = r l e in omega arith
 
-pub late : (bs : List ℕ) (k : List Item) (at p : ℕ) → run k bs at ≡ Breaks p → at ≤ p
+pub late : (bs : List ℕ) (k : List Item) (at p : ℕ) → run k bs at ≡ Err (Breaks p) → at ≤ p
 unfolding run
 late [] k at p e = late_end (ends k) e
 late (b ∷ bs) k at p e = late_on (feed k b) (λ l. run l bs (at + 1)) (λ l. late bs l (at + 1) p) e
 
 -- ---- what is done could be part of a whole text
 
-own : (bs : List ℕ) (at : ℕ) → run (map byte bs) bs at ≡ Whole
+own : (bs : List ℕ) (at : ℕ) → run (map byte bs) bs at ≡ Ok tt
 unfolding run feed ends
 own [] at = refl
 own (b ∷ bs) at = rw (byte_is b b refl) (own bs (at + 1))
@@ -55,11 +57,11 @@ own (b ∷ bs) at = rw (byte_is b b refl) (own bs (at + 1))
 -- the text is whole, if the items are what is owed at a place
 pub record Alive (s : List ℕ) (xs : List Item) (at : ℕ) : Type 0 where
   pub high : at ≤ length s
-  pub lives : from xs s at ≡ Whole
+  pub lives : from xs s at ≡ Ok tt
 
-pub alive_fall : {s : List ℕ} {xs : List Item} {a : ℕ} {v : Verdict} → Alive s xs a → Falls s xs a v → ⊥
+pub alive_fall : {s : List ℕ} {xs : List Item} {a : ℕ} {v : Fault} → Alive s xs a → Falls s xs a v → ⊥
 alive_fall {s} {xs} {a} {v} l f =
-    not_whole v f.fault (sym (f.goes []) ∙ ap (λ (k : List Item). from k s a) (append-nil xs) ∙ l.lives)
+    not_whole (sym (f.goes []) ∙ ap (λ (k : List Item). from k s a) (append-nil xs) ∙ l.lives)
 
 pub alive_seq : {s : List ℕ} {xs ys : List Item} {a b : ℕ} → Alive s xs a → Leads s xs a ys b → Alive s ys b
 alive_seq {s} {xs} {ys} {a} {b} l p =
@@ -85,14 +87,29 @@ alive_inside {s} {i} x ys e v = by (dec_lt i (length s))
     by (yes p) = p
     by (no p) = absurd (alive_fall v (stops x ys (let h = v.high in omega arith) e))
 
+-- a byte that is due stands there
+pub byte_due : {s : List ℕ} {i n x : ℕ} (ys : List Item) → Done s (byte x ∷ ys) i n → At s i x
+unfolding optional
+byte_due {s} {i} {n} {x} ys p = record { inside = inside; is = by (ℕ_discrete (get_or s i 0) x) }
+  where
+    l : Alive s (byte x ∷ (ys ++ map byte (drop n s))) i
+    l = done_alive p
+
+    inside : i < length s
+    inside = alive_inside (byte x) (ys ++ map byte (drop n s)) refl l
+
+    by : Dec (get_or s i 0 ≡ x) → get_or s i 0 ≡ x
+    by (yes e) = e
+    by (no e) = absurd (alive_fall l (refuses (byte x) (ys ++ map byte (drop n s)) inside (byte_not (get_or s i 0) x e)))
+
 -- ---- items are done at one place
 
 -- an item that refuses every byte tells where it stands
-probe : (s : List ℕ) (n : ℕ) → n ≤ length s → from (range 1 0 ∷ []) s n ≡ Breaks n
+probe : (s : List ℕ) (n : ℕ) → n ≤ length s → from (range 1 0 ∷ []) s n ≡ Err (Breaks n)
 unfolding optional
 probe s n h = by (dec_lt n (length s)) (dec_lt (get_or s n 0) 1)
   where
-    by : Dec (n < length s) → Dec (get_or s n 0 < 1) → from (range 1 0 ∷ []) s n ≡ Breaks n
+    by : Dec (n < length s) → Dec (get_or s n 0 < 1) → from (range 1 0 ∷ []) s n ≡ Err (Breaks n)
     by (yes p) (yes q) = (refuses (range 1 0) [] p (range_under (get_or s n 0) 1 0 q)).goes []
     by (yes p) (no q) = (refuses (range 1 0) [] p (range_over (get_or s n 0) 1 0 (omega arith))).goes []
     by (no p) d = (stops {s = s} {i = n} (range 1 0) [] (omega arith) refl).goes []
@@ -104,7 +121,7 @@ done_unique {s} {at} {n} {m} xs p q =
 
 -- ---- a firm item is done past the byte that it took
 
-pub past_end : (s : List ℕ) (i : ℕ) → i < length s → from [] s i ≡ Breaks i
+pub past_end : (s : List ℕ) (i : ℕ) → i < length s → from [] s i ≡ Err (Breaks i)
 unfolding feed
 past_end s i h = from_cons [] s i h
 

@@ -24,7 +24,7 @@ use Rattle.text.specs.Printing.{quoted, printed, printed_elements, printed_rest,
 use Rattle.text.specs.Printing.{sound_null, sound_bool, sound_number, sound_string, sound_list, sound_object}
 use Rattle.text.specs.Printing.{SoundValues, sound_no_more, sound_also, SoundMembers, sound_no_members}
 use Rattle.text.specs.Printing.{sound_named}
-use Rattle.text.specs.declared.verdict.Verdict.TheVariants.{Whole}
+use Rattle.std.specs.Prelude.{Ok}
 use Rattle.text.proofs.Laws.Parts.{spelt_drop, spelt_length, spelt_first}
 use Rattle.text.proofs.Laws.Meaning.{verdict_unique}
 use Rattle.text.proofs.Laws.Contents.{contents, contents_is}
@@ -168,8 +168,8 @@ module _ {t : Json} (p : Sound t) where
         after = no_space {a = length s} (omega arith);
       }
 
-  pub printed_whole : depth t ≤ levels → verdict (printed t) ≡ Whole
-  printed_whole h = sym (verdict_unique (printed t) Whole (record { tree = t; says = printed_reads; shallow = h }))
+  pub printed_whole : depth t ≤ levels → verdict (printed t) ≡ Ok tt
+  printed_whole h = sym (verdict_unique (printed t) (Ok tt) (record { tree = t; says = printed_reads; shallow = h }))
 
   pub printed_contents : depth t ≤ levels → contents (printed t) ≡ t
   printed_contents h = contents_is (printed t) t (printed_whole h) printed_reads

@@ -10,10 +10,9 @@ use lib.Seq.{drop-cons, drop-length}
 use Rattle.chars.specs.Base.{pick, At}
 use Rattle.text.specs.Machine.{Item, pass, bad, deep, go, byte, move, optional, feed, ends, after, run, from}
 use Rattle.text.specs.Reading.{Leads, Done, Falls, Goes}
-use Rattle.text.specs.declared.verdict.Verdict.{Verdict}
-use Rattle.text.specs.declared.verdict.Verdict.TheVariants.{Whole, Breaks, Deep}
-use Rattle.text.specs.declared.verdict.Part.{Part}
-use Rattle.text.specs.declared.verdict.Part.TheVariants.{Past, Fails}
+use Rattle.std.specs.Prelude.{Result, Ok, Err}
+use Rattle.text.specs.declared.fault.Fault.{Fault}
+use Rattle.text.specs.declared.fault.Fault.TheVariants.{Breaks, Deep}
 
 -- one byte
 pub from_cons : (k : List Item) (s : List ℕ) (i : ℕ) → i < length s
@@ -24,7 +23,7 @@ from_cons k s i h =
     ∙ ap (λ (n : ℕ). after (feed k (get_or s i 0)) i (λ l. run l (drop n s) (i + 1))) (sym (add-one i))
 
 -- no byte more
-pub from_empty : (k : List Item) (s : List ℕ) (i : ℕ) → i ≡ length s → from k s i ≡ pick (ends k) Whole (Breaks i)
+pub from_empty : (k : List Item) (s : List ℕ) (i : ℕ) → i ≡ length s → from k s i ≡ pick (ends k) (Ok tt) (Err (Breaks i))
 unfolding from run
 from_empty k s i e = rw (e, drop-length)
 
@@ -46,30 +45,17 @@ frame {s} {xs} {ys} zs p =
       goes = λ k. rw (append_assoc xs zs k, append_assoc ys zs k) (p.goes (zs ++ k));
     }
 
-pub fall : {s : List ℕ} {xs ys : List Item} {a b : ℕ} {v : Verdict} → Leads s xs a ys b → Falls s ys b v
+pub fall : {s : List ℕ} {xs ys : List Item} {a b : ℕ} {v : Fault} → Leads s xs a ys b → Falls s ys b v
     → Falls s xs a v
-fall p q = record { fault = q.fault; goes = λ k. p.goes k ∙ q.goes k }
+fall p q = record { goes = λ k. p.goes k ∙ q.goes k }
 
-pub fall_frame : {s : List ℕ} {xs : List Item} {a : ℕ} {v : Verdict} (zs : List Item) → Falls s xs a v
+pub fall_frame : {s : List ℕ} {xs : List Item} {a : ℕ} {v : Fault} (zs : List Item) → Falls s xs a v
     → Falls s (xs ++ zs) a v
-fall_frame {xs = xs} zs p = record { fault = p.fault; goes = λ k. rw (append_assoc xs zs k) (p.goes (zs ++ k)) }
+fall_frame {xs = xs} zs p = record { goes = λ k. rw (append_assoc xs zs k) (p.goes (zs ++ k)) }
 
-pub goes_seq : {s : List ℕ} {xs zs : List Item} {a b : ℕ} (r : Part) → Leads s xs a zs b → Goes s zs b r → Goes s xs a r
-goes_seq (Past n) p q = seq p q
-goes_seq (Fails v) p q = fall p q
-
--- what a call found, once its answer is known
-pub past : {s : List ℕ} {a : ℕ} (xs : List Item) (r : Part) (n : ℕ) → r ≡ Past n → Goes s xs a r → Done s xs a n
-past {s} {a} xs r n e g = subst (λ (q : Part). Goes s xs a q) e g
-
-pub fell : {s : List ℕ} {a : ℕ} (xs : List Item) (r : Part) (v : Verdict) → r ≡ Fails v → Goes s xs a r → Falls s xs a v
-fell {s} {a} xs r v e g = subst (λ (q : Part). Goes s xs a q) e g
-
--- a failure of a part is handed on as it is
-pub failed : {s : List ℕ} {xs : List Item} {a b : ℕ} (ys zs : List Item) (r : Part) (v : Verdict) → r ≡ Fails v
-    → Leads s xs a (ys ++ zs) b → Goes s ys b r → Goes s xs a r
-failed {s} {xs} {a} ys zs r v e p g =
-    subst (λ (q : Part). Goes s xs a q) (sym e) (fall p (fall_frame zs (fell ys r v e g)))
+pub goes_seq : {s : List ℕ} {xs zs : List Item} {a b : ℕ} (r : Result ℕ Fault) → Leads s xs a zs b → Goes s zs b r → Goes s xs a r
+goes_seq (Ok n) p q = seq p q
+goes_seq (Err v) p q = fall p q
 
 -- ---- one item at one byte
 
@@ -85,11 +71,11 @@ module _ {s : List ℕ} {i : ℕ} (x : Item) (ys : List Item) where
 
   pub refuses : i < length s → move x (get_or s i 0) ≡ bad → Falls s (x ∷ ys) i (Breaks i)
   unfolding feed
-  refuses h e = record { fault = tt; goes = λ k. from_cons (x ∷ (ys ++ k)) s i h ∙ rw e }
+  refuses h e = record { goes = λ k. from_cons (x ∷ (ys ++ k)) s i h ∙ rw e }
 
   pub sinks : i < length s → move x (get_or s i 0) ≡ deep → Falls s (x ∷ ys) i Deep
   unfolding feed
-  sinks h e = record { fault = tt; goes = λ k. from_cons (x ∷ (ys ++ k)) s i h ∙ rw e }
+  sinks h e = record { goes = λ k. from_cons (x ∷ (ys ++ k)) s i h ∙ rw e }
 
   pub passes : i < length s → move x (get_or s i 0) ≡ pass → Leads s (x ∷ ys) i ys i
   unfolding feed
@@ -102,7 +88,7 @@ module _ {s : List ℕ} {i : ℕ} (x : Item) (ys : List Item) where
 
   pub stops : i ≡ length s → optional x ≡ false → Falls s (x ∷ ys) i (Breaks i)
   unfolding ends
-  stops h e = record { fault = tt; goes = λ k. from_empty (x ∷ (ys ++ k)) s i h ∙ rw e }
+  stops h e = record { goes = λ k. from_empty (x ∷ (ys ++ k)) s i h ∙ rw e }
 
   pub skips : i ≡ length s → optional x ≡ true → Leads s (x ∷ ys) i ys i
   unfolding ends
@@ -133,6 +119,11 @@ alike {s} {i} xs ys h e =
       high = omega arith;
       goes = λ k. from_cons (xs ++ k) s i h ∙ rw (e k) (sym (from_cons (ys ++ k) s i h));
     }
+
+pub alike_at : {s : List ℕ} {i b : ℕ} (xs ys : List Item) → At s i b
+    → ((k : List Item) → feed (xs ++ k) b ≡ feed (ys ++ k) b) → Leads s xs i ys i
+alike_at {s} {i} {b} xs ys p e =
+    alike xs ys p.inside (subst (λ (x : ℕ). (k : List Item) → feed (xs ++ k) x ≡ feed (ys ++ k) x) (sym p.is) e)
 
 -- ---- so many of one item; the bytes of a word
 

@@ -11,7 +11,7 @@ use Rattle.text.specs.Json.{Values, Members, also, named, null, bool, depth, dep
 use Rattle.text.specs.Json.{rest, members, a_null, a_true, a_false, element, member}
 use Rattle.text.specs.Machine.{Item, bad, ws, byte, text, value, next, before, inner, move, optional, verdict_at}
 use Rattle.text.specs.Verdicts.{Text}
-use Rattle.text.specs.declared.verdict.Verdict.TheVariants.{Whole, Breaks}
+use Rattle.std.specs.Prelude.{Ok}
 use Rattle.text.specs.declared.scan.Shape.TheVariants.{List as a_list, Object as an_object}
 use Rattle.text.proofs.Laws.Places.{Alive, alive_inside, not_whole, past_end}
 use Rattle.text.proofs.Laws.Taking.Items.{from_end, alive_refuses, alive_byte}
@@ -128,10 +128,10 @@ alive_end : {s : List ℕ} {e : ℕ} → Alive s [] e → e ≡ length s
 alive_end {s} {e} v = by (dec_lt e (length s))
   where
     by : Dec (e < length s) → e ≡ length s
-    by (yes h) = absurd (not_whole (Breaks e) tt (sym (past_end s e h) ∙ v.lives))
+    by (yes h) = absurd (not_whole (sym (past_end s e h) ∙ v.lives))
     by (no h) = let g = v.high in omega arith
 
-pub text_sound : (n : ℕ) (s : List ℕ) → verdict_at n s ≡ Whole → Text n s
+pub text_sound : (n : ℕ) (s : List ℕ) → verdict_at n s ≡ Ok tt → Text n s
 unfolding verdict_at
 text_sound n s e =
     let w = alive_space (value n ∷ ws ∷ []) (record { high = omega arith; lives = e }) in

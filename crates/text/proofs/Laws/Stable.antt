@@ -11,8 +11,9 @@ use lib.ListN.{length, take, length-append}
 use lib.Seq.{take_at}
 use Rattle.chars.specs.Base.{pick}
 use Rattle.text.specs.Machine.{Item, Move, pass, bad, deep, go, feed, ends, after, run}
-use Rattle.text.specs.declared.verdict.Verdict.{Verdict}
-use Rattle.text.specs.declared.verdict.Verdict.TheVariants.{Whole, Breaks, Deep}
+use Rattle.std.specs.Prelude.{Ok, Err}
+use Rattle.text.specs.Verdicts.{Verdict}
+use Rattle.text.specs.declared.fault.Fault.TheVariants.{Breaks, Deep}
 use Rattle.text.proofs.Laws.Live.{Ends, Kin, kin_ends}
 use Rattle.text.proofs.Laws.Levels.{Keeps, both_pass, both_bad, both_go, one_deep, kin_feed}
 
@@ -28,10 +29,10 @@ pub record Stops (k : List Item) (s us : List ℕ) (b at : ℕ) (v : Verdict) : 
 
 -- the text is whole; it ends too early; a byte breaks it; a byte opens a level too many, which l has
 pub data Fate (k l : List Item) (s : List ℕ) (at : ℕ) : Verdict → Type 0 where
-  whole : Fate k l s at Whole
-  short : (p : ℕ) → Lives k s → p ≡ at + length s → Fate k l s at (Breaks p)
-  breaks : {us : List ℕ} {b p : ℕ} → Stops k s us b at (Breaks p) → p ≡ at + length us → Fate k l s at (Breaks p)
-  sinks : {us : List ℕ} {b : ℕ} → Stops k s us b at Deep → Lives l (us ++ (b ∷ [])) → Fate k l s at Deep
+  whole : Fate k l s at (Ok tt)
+  short : (p : ℕ) → Lives k s → p ≡ at + length s → Fate k l s at (Err (Breaks p))
+  breaks : {us : List ℕ} {b p : ℕ} → Stops k s us b at (Err (Breaks p)) → p ≡ at + length us → Fate k l s at (Err (Breaks p))
+  sinks : {us : List ℕ} {b : ℕ} → Stops k s us b at (Err Deep) → Lives l (us ++ (b ∷ [])) → Fate k l s at (Err Deep)
 
 -- ---- one byte more in front
 
@@ -62,7 +63,7 @@ module _ {k l : List Item} {w : List ℕ} (g : Kin k l w) (at : ℕ) where
   lives_none : Lives k []
   lives_none = record { rest = w; finish = kin_ends g }
 
-  fate_end : (t : Bool) → Fate k l [] at (pick t Whole (Breaks at))
+  fate_end : (t : Bool) → Fate k l [] at (pick t (Ok tt) (Err (Breaks at)))
   fate_end true = whole
   fate_end false = short at lives_none (omega arith)
 
@@ -74,11 +75,11 @@ module _ {k l : List Item} {w : List ℕ} (g : Kin k l w) (at : ℕ) where
         → ((i j : List Item) (v : List ℕ) → Kin i j v → Fate i j s (at + 1) (run i s (at + 1)))
         → Fate k l (b ∷ s) at (after m at (λ j. run j s (at + 1)))
     unfolding run
-    fate_on pass pass e f both_pass r = breaks (stops_here (Breaks at) (λ ds. rw e)) (omega arith)
-    fate_on bad bad e f both_bad r = breaks (stops_here (Breaks at) (λ ds. rw e)) (omega arith)
+    fate_on pass pass e f both_pass r = breaks (stops_here (Err (Breaks at)) (λ ds. rw e)) (omega arith)
+    fate_on bad bad e f both_bad r = breaks (stops_here (Err (Breaks at)) (λ ds. rw e)) (omega arith)
     fate_on (go i) (go j) e f (both_go {w = v} h) r = fate_cons e f (r i j v h)
     fate_on deep (go j) e f (one_deep {w = v} h) r =
-        sinks (stops_here Deep (λ ds. rw e)) (lives_cons f (record { rest = v; finish = h }))
+        sinks (stops_here (Err Deep) (λ ds. rw e)) (lives_cons f (record { rest = v; finish = h }))
     fate_on pass bad e f x8 r = elim x8 [ ]
     fate_on pass deep e f x9 r = elim x9 [ ]
     fate_on pass (go j) e f x10 r = elim x10 [ ]

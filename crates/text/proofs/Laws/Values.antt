@@ -6,23 +6,22 @@ use native.Mathlib.Omega.{arith}
 use native.Mathlib.Numerals.{sub-one}
 use lib.ListN.{length, get_or}
 use Rattle.text.specs.Json.{levels}
-use Rattle.text.specs.Machine.{go, ws, byte, text, value, first, next, before, inner, close, opener, opens}
-use Rattle.text.specs.Machine.{optional, ends, verdict_at, verdict}
+use Rattle.text.specs.Machine.{go, ws, value, first, next, before, inner, close, opener, opens}
+use Rattle.text.specs.Machine.{optional, ends, from, verdict_at, verdict}
 use Rattle.text.specs.Reading.{Leads, Done, Falls, Goes, Opens, Enters, Begins, Followed, Follows}
-use Rattle.text.specs.declared.verdict.Verdict.{Verdict}
-use Rattle.text.specs.declared.verdict.Verdict.TheVariants.{Whole, Breaks, Deep}
-use Rattle.text.specs.declared.verdict.Part.{Part}
-use Rattle.text.specs.declared.verdict.Part.TheVariants.{Past, Fails}
+use Rattle.std.specs.Prelude.{Result, Ok, Err}
+use Rattle.std.specs.Result.{result_map_both}
+use Rattle.text.specs.declared.fault.Fault.{Fault}
+use Rattle.text.specs.declared.fault.Fault.TheVariants.{Breaks, Deep}
 use Rattle.text.specs.declared.scan.Shape.{Shape}
 use Rattle.text.specs.declared.scan.Shape.TheVariants.{List as list, Object as object}
 use Rattle.text.specs.declared.scan.Begun.{Begun}
 use Rattle.text.specs.declared.scan.Begun.TheVariants.{Ends, Inner}
 use Rattle.text.specs.declared.scan.Next.{Next}
-use Rattle.text.specs.declared.scan.Next.TheVariants.{Inner as Another, Closed, Fails as Stops}
-use Rattle.text.proofs.Laws.Reading.{stay, seq, frame, fall, fall_frame, goes_seq, past, fell, takes, refuses}
+use Rattle.text.specs.declared.scan.Next.TheVariants.{Inner as Another, Closed}
+use Rattle.text.proofs.Laws.Reading.{stay, seq, frame, fall, fall_frame, takes, refuses}
 use Rattle.text.proofs.Laws.Reading.{sinks, stops, alike, from_empty}
 use Rattle.text.proofs.Laws.Places.{past_end}
-use Rattle.text.proofs.Laws.Moves.Bytes.{byte_is, byte_not}
 use Rattle.text.proofs.Laws.Moves.Values.{value_opens, first_close, next_close, next_comma, next_not}
 use Rattle.text.proofs.Laws.Moves.Owing.{first_enters}
 
@@ -31,31 +30,17 @@ use Rattle.text.proofs.Laws.Moves.Owing.{first_enters}
 pub before_list : {s : List ℕ} {i : ℕ} {sh : Shape} → sh ≡ list → i ≤ length s → Done s (before sh) i i
 before_list {s} {i} e h = rw e (stay s [] i h)
 
-module _ (s : List ℕ) (i : ℕ) {sh : Shape} (e : sh ≡ object) where
-  pub before_short : length s ≤ i → i ≤ length s → Falls s (before sh) i (Breaks i)
-  unfolding optional
-  before_short h g = rw e (stops (byte 34) (text ∷ ws ∷ byte 58 ∷ ws ∷ []) (omega arith) refl)
-
-  pub before_wrong : i < length s → (get_or s i 0 ≡ 34 → ⊥) → Falls s (before sh) i (Breaks i)
-  before_wrong h g = rw e (refuses (byte 34) (text ∷ ws ∷ byte 58 ∷ ws ∷ []) h (byte_not (get_or s i 0) 34 g))
-
-  pub before_name : i < length s → get_or s i 0 ≡ 34 → (r : Part) → Goes s (text ∷ ws ∷ byte 58 ∷ ws ∷ []) (i + 1) r
-      → Goes s (before sh) i r
-  before_name h q r g =
-      subst (λ (x : Shape). Goes s (before x) i r) (sym e)
-      (goes_seq r (takes (byte 34) (text ∷ ws ∷ byte 58 ∷ ws ∷ []) [] h (byte_is (get_or s i 0) 34 q)) g)
-
 -- ---- behind an opening byte
 
 module _ {s : List ℕ} {sh : Shape} {a i : ℕ} (w : Done s (ws ∷ []) a i) where
   to_first : (n : ℕ) → Leads s (ws ∷ first sh n ∷ []) a (first sh n ∷ []) i
   to_first n = frame (first sh n ∷ []) w
 
-  pub opened_short : length s ≤ i → Opens s sh a (Ends (Fails (Breaks i)))
+  pub opened_short : length s ≤ i → Opens s sh a (Err (Breaks i))
   unfolding optional
   opened_short h = record { at_any = λ n. fall (to_first n) (stops (first sh n) [] (omega (arith, w.high)) refl) }
 
-  pub opened_empty : i < length s → get_or s i 0 ≡ close sh → Opens s sh a (Ends (Past (i + 1)))
+  pub opened_empty : i < length s → get_or s i 0 ≡ close sh → Opens s sh a (Ok (Ends (i + 1)))
   opened_empty h e =
       record { at_any = λ n. seq (to_first n) (takes (first sh n) [] [] h (first_close (get_or s i 0) sh n e)) }
 
@@ -64,15 +49,13 @@ module _ {s : List ℕ} {sh : Shape} {a i : ℕ} (w : Done s (ws ∷ []) a i) wh
   to_inner h e n =
       seq (to_first n) (alike (first sh n ∷ []) (before sh ++ inner sh n) h (first_enters (get_or s i 0) sh n e))
 
-  pub opened_inner : i < length s → (get_or s i 0 ≡ close sh → ⊥) → (r : Part) (n : ℕ) → r ≡ Past n
-      → Goes s (before sh) i r → Opens s sh a (Inner n sh)
-  opened_inner h e r n q g =
-      record { at_any = λ m. (refl, seq (to_inner h e m) (frame (inner sh m) (past (before sh) r n q g))) }
+  pub opened_inner : {n : ℕ} → i < length s → (get_or s i 0 ≡ close sh → ⊥) → Done s (before sh) i n
+      → Opens s sh a (Ok (Inner n sh))
+  opened_inner h e d = record { at_any = λ m. (refl, seq (to_inner h e m) (frame (inner sh m) d)) }
 
-  pub opened_fails : i < length s → (get_or s i 0 ≡ close sh → ⊥) → (r : Part) (v : Verdict) → r ≡ Fails v
-      → Goes s (before sh) i r → Opens s sh a (Ends (Fails v))
-  opened_fails h e r v q g =
-      record { at_any = λ m. fall (to_inner h e m) (fall_frame (inner sh m) (fell (before sh) r v q g)) }
+  pub opened_fails : {f : Fault} → i < length s → (get_or s i 0 ≡ close sh → ⊥) → Falls s (before sh) i f
+      → Opens s sh a (Err f)
+  opened_fails h e d = record { at_any = λ m. fall (to_inner h e m) (fall_frame (inner sh m) d) }
 
 -- ---- a value that opens a level
 
@@ -81,21 +64,28 @@ opens_more sh zero h = absurd (h refl)
 opens_more sh (suc n) h = rw (sub-one (suc n))
 
 module _ {s : List ℕ} {n i : ℕ} (sh : Shape) (h : i < length s) (o : get_or s i 0 ≡ opener sh) where
-  pub begins_deep : n ≡ 0 → Begins s n i (Ends (Fails Deep))
+  pub begins_deep : n ≡ 0 → Begins s n i (Err Deep)
   begins_deep z = sinks (value n) [] h (value_opens (get_or s i 0) n sh o ∙ ap (opens sh) z)
 
   pub to_opened : (n ≡ 0 → ⊥) → Leads s (value n ∷ []) i (ws ∷ first sh (n - 1) ∷ []) (i + 1)
   to_opened z = takes (value n) [] (ws ∷ first sh (n - 1) ∷ []) h (value_opens (get_or s i 0) n sh o ∙ opens_more sh n z)
 
-  pub begins_opened : (r : Begun) → (n ≡ 0 → ⊥) → Opens s sh (i + 1) r → Begins s n i r
-  begins_opened (Ends p) z w = goes_seq p (to_opened z) (w.at_any (n - 1))
-  begins_opened (Inner j sh') z w =
+  pub begins_opened : (r : Result Begun Fault) → (n ≡ 0 → ⊥) → Opens s sh (i + 1) r → Begins s n i r
+  begins_opened (Err f) z w = fall (to_opened z) (w.at_any (n - 1))
+  begins_opened (Ok (Ends e)) z w = seq (to_opened z) (w.at_any (n - 1))
+  begins_opened (Ok (Inner j sh')) z w =
       let at = w.at_any (n - 1) in
       record {
         left = omega arith;
         leads = subst (λ (x : Shape). Leads s (value n ∷ []) i (inner x (n - 1)) j) (sym at.0)
             (seq (to_opened z) at.1);
       }
+
+-- a value without an inner value begins and ends as one part
+pub begins_ends : (s : List ℕ) (n a : ℕ) (r : Result ℕ Fault) (q : Result Begun Fault)
+    → q ≡ result_map_both Ends (λ f. f) r → Goes s (value n ∷ []) a r → Begins s n a q
+begins_ends s n a (Ok e) q z g = subst (λ (x : Result Begun Fault). Begins s n a x) (sym z) g
+begins_ends s n a (Err f) q z g = subst (λ (x : Result Begun Fault). Begins s n a x) (sym z) g
 
 -- ---- behind an inner value
 
@@ -109,27 +99,25 @@ module _ {s : List ℕ} {sh : Shape} {a i : ℕ} (w : Done s (ws ∷ []) a i) wh
   to_next : (n : ℕ) → Leads s (ws ∷ next sh n ∷ []) a (next sh n ∷ []) i
   to_next n = frame (next sh n ∷ []) w
 
-  pub follow_short : length s ≤ i → Follows s sh a (Stops (Breaks i))
+  pub follow_short : length s ≤ i → Follows s sh a (Err (Breaks i))
   unfolding optional
   follow_short h = record { at_any = λ n. fall (to_next n) (stops (next sh n) [] (omega (arith, w.high)) refl) }
 
-  pub follow_close : i < length s → get_or s i 0 ≡ close sh → Follows s sh a (Closed (i + 1))
+  pub follow_close : i < length s → get_or s i 0 ≡ close sh → Follows s sh a (Ok (Closed (i + 1)))
   follow_close h e =
       record { at_any = λ n. seq (to_next n) (takes (next sh n) [] [] h (next_close (get_or s i 0) sh n e)) }
 
   pub follow_wrong : i < length s → (get_or s i 0 ≡ close sh → ⊥) → (get_or s i 0 ≡ 44 → ⊥)
-      → Follows s sh a (Stops (Breaks i))
+      → Follows s sh a (Err (Breaks i))
   follow_wrong h e f =
       record { at_any = λ n. fall (to_next n) (refuses (next sh n) [] h (next_not (get_or s i 0) sh n e f)) }
 
-  module _ {j : ℕ} (h : i < length s) (e : get_or s i 0 ≡ 44) (x : Done s (ws ∷ []) (i + 1) j) (r : Part)
-      (g : Goes s (before sh) j r) where
+  module _ {j : ℕ} (h : i < length s) (e : get_or s i 0 ≡ 44) (x : Done s (ws ∷ []) (i + 1) j) where
     to_heading : (n : ℕ) → Leads s (ws ∷ next sh n ∷ []) a (before sh ++ inner sh n) j
     to_heading n = seq (seq (to_next n) (next_goes sh n h e)) (frame (before sh ++ inner sh n) x)
 
-    pub follow_inner : (m : ℕ) → r ≡ Past m → Follows s sh a (Another m)
-    follow_inner m q =
-        let d = past (before sh) r m q g in
+    pub follow_inner : {m : ℕ} → Done s (before sh) j m → Follows s sh a (Ok (Another m))
+    follow_inner d =
         record {
           at_any = λ n. record {
             later = omega (arith, w.low, x.low, d.low);
@@ -137,54 +125,46 @@ module _ {s : List ℕ} {sh : Shape} {a i : ℕ} (w : Done s (ws ∷ []) a i) wh
           };
         }
 
-    pub follow_fails : (v : Verdict) → r ≡ Fails v → Follows s sh a (Stops v)
-    follow_fails v q = record { at_any = λ n. fall (to_heading n) (fall_frame (inner sh n) (fell (before sh) r v q g)) }
+    pub follow_fails : {f : Fault} → Falls s (before sh) j f → Follows s sh a (Err f)
+    follow_fails d = record { at_any = λ n. fall (to_heading n) (fall_frame (inner sh n) d) }
 
 -- ---- a value with inner values
 
-pub entered : (s : List ℕ) (n a : ℕ) (r : Begun) (i : ℕ) (sh : Shape) → r ≡ Inner i sh → Begins s n a r
-    → Enters s n a sh i
-entered s n a r i sh e g = subst (λ (q : Begun). Begins s n a q) e g
-
-pub ended : (s : List ℕ) (n a : ℕ) (r : Begun) (p : Part) → r ≡ Ends p → Begins s n a r → Goes s (value n ∷ []) a p
-ended s n a r p e g = subst (λ (q : Begun). Begins s n a q) e g
-
-module _ {s : List ℕ} {n a i m : ℕ} {sh : Shape} (w : Enters s n a sh i) (d : Done s (value (n - 1) ∷ []) i m)
-    (q : Next) (f : Follows s sh m q) where
+module _ {s : List ℕ} {n a i m : ℕ} {sh : Shape} (w : Enters s n a sh i) (d : Done s (value (n - 1) ∷ []) i m) where
   behind : Leads s (value n ∷ []) a (ws ∷ next sh (n - 1) ∷ []) m
   behind = seq w.leads (frame (ws ∷ next sh (n - 1) ∷ []) d)
 
-  told : (r : Next) → q ≡ r → Followed s sh m r (n - 1)
-  told r e = subst (λ (x : Next). Followed s sh m x (n - 1)) e (f.at_any (n - 1))
+  pub inner_stops : {f : Fault} → Follows s sh m (Err f) → Falls s (value n ∷ []) a f
+  inner_stops f = fall behind (f.at_any (n - 1))
 
-  pub inner_more : (j : ℕ) → q ≡ Another j → Enters s n a sh j
-  inner_more j e = record { left = w.left; leads = seq behind (told (Another j) e).leads }
+  module _ {q : Next} (f : Follows s sh m (Ok q)) where
+    told : (r : Next) → q ≡ r → Followed s sh m (Ok r) (n - 1)
+    told r e = subst (λ (x : Next). Followed s sh m (Ok x) (n - 1)) e (f.at_any (n - 1))
 
-  pub inner_later : (j : ℕ) → q ≡ Another j → i < j
-  inner_later j e = omega (arith, d.low, (told (Another j) e).later)
+    pub inner_more : {j : ℕ} → q ≡ Another j → Enters s n a sh j
+    inner_more e = record { left = w.left; leads = seq behind (told (Another _) e).leads }
 
-  pub inner_closed : (e : ℕ) → q ≡ Closed e → Done s (value n ∷ []) a e
-  inner_closed e z = seq behind (told (Closed e) z)
+    pub inner_later : {j : ℕ} → q ≡ Another j → i < j
+    inner_later e = omega (arith, d.low, (told (Another _) e).later)
 
-  pub inner_stops : (v : Verdict) → q ≡ Stops v → Falls s (value n ∷ []) a v
-  inner_stops v z = fall behind (told (Stops v) z)
+    pub inner_closed : {e : ℕ} → q ≡ Closed e → Done s (value n ∷ []) a e
+    inner_closed z = seq behind (told (Closed _) z)
 
 -- ---- a whole text
 
 module _ {s : List ℕ} {i : ℕ} (w : Done s (ws ∷ []) 0 i) where
-  pub verdict_fails : (r : Part) (v : Verdict) → r ≡ Fails v → Goes s (value levels ∷ []) i r → v ≡ verdict s
+  pub verdict_fails : {f : Fault} → Falls s (value levels ∷ []) i f → Err f ≡ verdict s
   unfolding verdict_at
-  verdict_fails r v e g =
-      sym ((fall (frame (value levels ∷ ws ∷ []) w) (fall_frame (ws ∷ []) (fell (value levels ∷ []) r v e g))).goes [])
+  verdict_fails d = sym ((fall (frame (value levels ∷ ws ∷ []) w) (fall_frame (ws ∷ []) d)).goes [])
 
-  module _ {n j : ℕ} (r : Part) (e : r ≡ Past n) (g : Goes s (value levels ∷ []) i r) (x : Done s (ws ∷ []) n j) where
-    all : Done s (ws ∷ value levels ∷ ws ∷ []) 0 j
-    all = seq (frame (value levels ∷ ws ∷ []) w) (seq (frame (ws ∷ []) (past (value levels ∷ []) r n e g)) x)
+  pub verdict_on : {n : ℕ} → Done s (value levels ∷ []) i n → from (ws ∷ []) s n ≡ verdict s
+  unfolding verdict_at
+  verdict_on d = sym ((seq (frame (value levels ∷ ws ∷ []) w) (frame (ws ∷ []) d)).goes [])
 
-    pub verdict_breaks : j < length s → Breaks j ≡ verdict s
-    unfolding verdict_at
-    verdict_breaks h = sym (all.goes [] ∙ past_end s j h)
+module _ {s : List ℕ} {a j : ℕ} (d : Done s (ws ∷ []) a j) where
+  pub ended_breaks : j < length s → Err (Breaks j) ≡ from (ws ∷ []) s a
+  ended_breaks h = sym (d.goes [] ∙ past_end s j h)
 
-    pub verdict_whole : length s ≤ j → Whole ≡ verdict s
-    unfolding verdict_at ends
-    verdict_whole h = sym (all.goes [] ∙ from_empty [] s j (omega (arith, x.high)))
+  pub ended_whole : length s ≤ j → Ok tt ≡ from (ws ∷ []) s a
+  unfolding ends
+  ended_whole h = sym (d.goes [] ∙ from_empty [] s j (omega (arith, d.high)))

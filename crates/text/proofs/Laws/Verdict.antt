@@ -9,9 +9,9 @@ use lib.ListN.{length, take, drop, take-append-drop}
 use lib.Seq.{take_all, take-take}
 use Rattle.text.specs.Json.{levels}
 use Rattle.text.specs.Machine.{from, verdict_at, verdict}
-use Rattle.text.specs.Verdicts.{Text, Begins, BreaksAt, Sinks, Means}
-use Rattle.text.specs.declared.verdict.Verdict.{Verdict}
-use Rattle.text.specs.declared.verdict.Verdict.TheVariants.{Whole, Breaks, Deep}
+use Rattle.text.specs.Verdicts.{Text, Begins, BreaksAt, Sinks, Means, Verdict}
+use Rattle.std.specs.Prelude.{Ok, Err}
+use Rattle.text.specs.declared.fault.Fault.TheVariants.{Breaks, Deep}
 use Rattle.text.proofs.Laws.Places.{not_whole, deep_breaks}
 use Rattle.text.proofs.Laws.Live.{start, kin_start}
 use Rattle.text.proofs.Laws.Levels.{verdict_more}
@@ -64,28 +64,28 @@ breaks_unique {p = p} {q = q} b c = by (dec_lt p q) (dec_lt q p)
     by (no h) (no g) = omega arith
 
 pub means_unique : (s : List ℕ) (v w : Verdict) → Means s v → Means s w → v ≡ w
-means_unique s Whole Whole a b = refl
-means_unique s Whole (Breaks q) a b = absurd (whole_breaks a b)
-means_unique s Whole Deep a b = absurd (whole_deep a b)
-means_unique s (Breaks p) Whole a b = absurd (whole_breaks b a)
-means_unique s (Breaks p) (Breaks q) a b = ap Breaks (breaks_unique a b)
-means_unique s (Breaks p) Deep a b = absurd (breaks_deep a b)
-means_unique s Deep Whole a b = absurd (whole_deep b a)
-means_unique s Deep (Breaks q) a b = absurd (breaks_deep b a)
-means_unique s Deep Deep a b = refl
+means_unique s (Ok x) (Ok y) a b = refl
+means_unique s (Ok x) (Err (Breaks q)) a b = absurd (whole_breaks a b)
+means_unique s (Ok x) (Err Deep) a b = absurd (whole_deep a b)
+means_unique s (Err (Breaks p)) (Ok y) a b = absurd (whole_breaks b a)
+means_unique s (Err (Breaks p)) (Err (Breaks q)) a b = ap (λ (n : ℕ). Err (Breaks n)) (breaks_unique a b)
+means_unique s (Err (Breaks p)) (Err Deep) a b = absurd (breaks_deep a b)
+means_unique s (Err Deep) (Ok y) a b = absurd (whole_deep b a)
+means_unique s (Err Deep) (Err (Breaks q)) a b = absurd (breaks_deep b a)
+means_unique s (Err Deep) (Err Deep) a b = refl
 
 -- ---- the twin's verdict is right
 
-module _ (sound : (n : ℕ) (s : List ℕ) → verdict_at n s ≡ Whole → Text n s)
-    (complete : (n : ℕ) (s : List ℕ) → Text n s → verdict_at n s ≡ Whole) where
+module _ (sound : (n : ℕ) (s : List ℕ) → verdict_at n s ≡ Ok tt → Text n s)
+    (complete : (n : ℕ) (s : List ℕ) → Text n s → verdict_at n s ≡ Ok tt) where
   lives_begins : {n : ℕ} {bs : List ℕ} → Lives (start n) bs → Begins n bs
   unfolding verdict_at from
   lives_begins {n} {bs} h = record { rest = h.rest; text = sound n (bs ++ h.rest) (h.finish.whole 0) }
 
   -- what breaks with some number of levels is no text of any
-  breaks_never : (n : ℕ) (s : List ℕ) (p : ℕ) → verdict_at n s ≡ Breaks p → (m : ℕ) → Text m s → ⊥
+  breaks_never : (n : ℕ) (s : List ℕ) (p : ℕ) → verdict_at n s ≡ Err (Breaks p) → (m : ℕ) → Text m s → ⊥
   breaks_never n s p e m t =
-      not_whole (Breaks p) tt (sym (verdict_more (Breaks p) deep_breaks m n s e) ∙ complete (m + n) s (text_more n t))
+      not_whole (sym (verdict_more (Err (Breaks p)) deep_breaks m n s e) ∙ complete (m + n) s (text_more n t))
 
   module _ {s us : List ℕ} {b p : ℕ} {v : Verdict} (h : Stops (start levels) s us b 0 v) (q : p ≡ 0 + length us) where
     stops_begins : Begins levels (take p s)
@@ -122,7 +122,7 @@ module _ (sound : (n : ℕ) (s : List ℕ) → verdict_at n s ≡ Whole → Text
           opened = suc levels;
           deeper = rw (stops_past h q) (lives_begins l);
           too_deep = λ g.
-              not_whole Deep tt
+              not_whole
               (sym (h.always g.rest) ∙ complete levels (us ++ (b ∷ g.rest)) (stops_text h q g));
         };
       }

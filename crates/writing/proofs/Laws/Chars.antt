@@ -12,6 +12,7 @@ use Rattle.chars.specs.Written.{coded, written}
 use Rattle.chars.proofs.Laws.Tests.{each_true}
 use Rattle.chars.proofs.Laws.Written.Forms.{written_bare}
 use Rattle.writing.specs.WrittenForm.{is_escaped}
+use Rattle.writing.specs.declared.sink.Sink.{Sink}
 use Rattle.writing.specs.Showing.{Adds}
 use Rattle.writing.specs.Bytes.{between}
 use Rattle.writing.proofs.Laws.Showing.{adds_none}
@@ -80,11 +81,10 @@ module _ (w : Bool) (y : ℕ) where
 
 -- ---- commas
 
-pub between_none : {i at : ℕ} {out : List ℕ} → i ≡ 0 → Adds (between i) out at at out
-between_none {i} {at} {out} e = subst (λ (k : ℕ). Adds (between k) out at at out) (sym e) (adds_none out at)
+pub between_none : {i : ℕ} {s : Sink} → i ≡ 0 → Adds (between i) s s
+between_none {i} {s} e = subst (λ (k : ℕ). Adds (between k) s s) (sym e) (adds_none s)
 
 pub between_comma :
-    (i : ℕ) {at next : ℕ} {out after : List ℕ} → (i ≡ 0 → ⊥) → Adds (44 ∷ []) out at next after
-    → Adds (between i) out at next after
+    (i : ℕ) {s t : Sink} → (i ≡ 0 → ⊥) → Adds (44 ∷ []) s t → Adds (between i) s t
 between_comma zero s a = absurd (s refl)
 between_comma (suc i) s a = a

@@ -1,17 +1,16 @@
 -- A walk over characters, each of which adds its piece behind those before it.
 --   Each f xs i ..    the first i of xs are added by their pieces;  each_start, each_next, each_end
---   each_plain        plain characters together, whatever f is: text_plain, spelled_plain, bare_plain
---   bytes_each, text_each, spelled_each, bare_each    what the pieces of all come to
-use mathlib.Core.Path.{◌≡◌, refl, sym, ap, ◌∙◌}
+--   each_plain        plain characters together, whatever f is: piece_plain
+--   pieces_each       what the pieces of all come to
+use mathlib.Core.Path.{◌≡◌, refl, sym, ap, ◌∙◌, subst}
 use mathlib.Core.Bool.{Bool}
 use mathlib.Core.List.{List, [], ◌∷◌, ◌++◌, map}
 use Prim.Native.Nat.{ℕ, ◌+◌, ◌-◌, ◌≤◌, ◌<◌}
 use native.Mathlib.Omega.{arith}
 use native.Mathlib.Numerals.{add-one}
-use lib.ListN.{length, get_or, take}
+use lib.ListN.{length, get_or, take, drop, length-drop}
 use lib.Seq.{take_all, take-suc, take-add}
 use borrow.Author.Tests.{ne_eqb}
-use Rattle.chars.specs.Base.{part}
 use Rattle.chars.specs.Written.{written, written_text}
 use Rattle.chars.proofs.Laws.Written.Runs.{text_append}
 use Rattle.held.specs.Held.{held_each}
@@ -20,8 +19,11 @@ use Rattle.syntax.specs.Policy.{star, any}
 use Rattle.writing.specs.WrittenForm.{bare, spelling, spelled}
 use Rattle.writing.specs.Valid.{none, more}
 use Rattle.writing.specs.Showing.{Adds}
-use Rattle.writing.specs.Plain.{Plain, AllPlain, PlainTo}
-use Rattle.writing.specs.declared.plain.Behind.{Behind}
+use Rattle.writing.specs.Plain.{Plain, AllPlain, AddsPlain}
+use Rattle.writing.specs.Spelling.{piece, pieces}
+use Rattle.writing.specs.declared.sink.Sink.{Sink}
+use Rattle.writing.specs.declared.spelling.Form.{Form}
+use Rattle.writing.specs.declared.spelling.Form.TheVariants.{Text, Action, Entry}
 use Rattle.writing.proofs.Laws.Showing.{adds_none, adds_then, adds_as}
 use Rattle.writing.proofs.Laws.Pieces.{spelling_bare}
 
@@ -38,81 +40,74 @@ module _ (f : ℕ → List ℕ) where
   each_itself g (more {x = y} {xs = ys} p ps) =
       ap (λ (l : List ℕ). l ++ held_each f ys) (g y p) ∙ ap (λ (l : List ℕ). y ∷ l) (each_itself g ps)
 
-  each_run : ((y : ℕ) → Plain y → f y ≡ y ∷ []) → (xs : List ℕ) (i e : ℕ) → i ≤ e → AllPlain (part xs i e)
-      → held_each f (take i xs) ++ part xs i e ≡ held_each f (take e xs)
-  each_run g xs i e h p =
-      let k : i + (e - i) ≡ e = omega arith in
-      let t : take i xs ++ part xs i e ≡ take e xs =
-      sym (take-add i (e - i) xs) ∙ ap (λ (n : ℕ). take n xs) k in
+  each_run :
+      ((y : ℕ) → Plain y → f y ≡ y ∷ []) → (xs : List ℕ) (i n : ℕ) → AllPlain (take n (drop i xs))
+      → held_each f (take i xs) ++ take n (drop i xs) ≡ held_each f (take (i + n) xs)
+  each_run g xs i n p =
       ap (λ (l : List ℕ). held_each f (take i xs) ++ l) (sym (each_itself g p))
-      ∙ sym (held_append f (take i xs) (part xs i e)) ∙ ap (held_each f) t
+      ∙ sym (held_append f (take i xs) (take n (drop i xs))) ∙ ap (held_each f) (sym (take-add i n xs))
 
-  pub record Each (xs : List ℕ) (i : ℕ) (out₀ : List ℕ) (o₀ : ℕ) (out : List ℕ) (o : ℕ) : Type 0 where
-    pub adds : Adds (held_each f (take i xs)) out₀ o₀ o out
+  pub record Each (xs : List ℕ) (i : ℕ) (s t : Sink) : Type 0 where
+    pub inside : i ≤ length xs
+    pub adds : Adds (held_each f (take i xs)) s t
 
-  pub each_start : (xs out : List ℕ) (o : ℕ) → Each xs 0 out o out o
+  pub each_start : (xs : List ℕ) (s : Sink) → Each xs 0 s s
   unfolding held_each
-  each_start xs out o = record { adds = adds_none out o }
+  each_start xs s = record { inside = omega arith; adds = adds_none s }
 
-  module _ {xs out₀ out : List ℕ} {i o₀ o : ℕ} (w : Each xs i out₀ o₀ out o) where
-    pub each_next : {o' : ℕ} {after : List ℕ} → i < length xs → Adds (f (get_or xs i 0)) out o o' after
-        → Each xs (i + 1) out₀ o₀ after o'
-    each_next h a = record { adds = adds_as (each_snoc xs i h) (adds_then w.adds a) }
+  module _ {xs : List ℕ} {i : ℕ} {s t : Sink} (w : Each xs i s t) where
+    pub each_next : {u : Sink} → i < length xs → Adds (f (get_or xs i 0)) t u → Each xs (i + 1) s u
+    each_next h a = record { inside = omega arith; adds = adds_as (each_snoc xs i h) (adds_then w.adds a) }
 
     -- characters whose pieces are themselves
-    pub each_plain : {after : List ℕ} {r : Behind} → ((y : ℕ) → Plain y → f y ≡ y ∷ []) → PlainTo xs i out o r after
-        → Each xs r.i out₀ o₀ after r.next
-    each_plain {r = r} g p =
-        record { adds = adds_as (each_run g xs i r.i p.order p.plain) (adds_then w.adds p.adds) }
+    pub each_plain :
+        {u : Sink} {m n : ℕ} → ((y : ℕ) → Plain y → f y ≡ y ∷ []) → m ≡ length xs - i
+        → AddsPlain (take m (drop i xs)) n t u → Each xs (i + n) s u
+    each_plain {u} {m} {n} g e p =
+        let all : take m (drop i xs) ≡ drop i xs = take_all m (drop i xs) (omega (arith, e, length-drop i xs)) in
+        let q : AddsPlain (drop i xs) n t u = subst (λ (l : List ℕ). AddsPlain l n t u) all p in
+        record {
+          inside = omega (arith, w.inside, q.inside, length-drop i xs);
+          adds = adds_as (each_run g xs i n q.plain) (adds_then w.adds q.adds);
+        }
 
-    pub each_end : {ws : List ℕ} → length xs ≤ i → held_each f xs ≡ ws → Adds ws out₀ o₀ o out
+    pub each_end : {ws : List ℕ} → length xs ≤ i → held_each f xs ≡ ws → Adds ws s t
     each_end h e = adds_as (ap (held_each f) (take_all i xs h) ∙ e) w.adds
-
--- ---- what the pieces come to
-
-abbrev pub itself : ℕ → List ℕ
-itself b = b ∷ []
-
-abbrev pub symbol : Bool → ℕ → List ℕ
-symbol w y = written_text (spelling w y)
-
-abbrev pub bare_char : ℕ → List ℕ
-bare_char y = written (bare y)
 
 -- ---- the pieces of a plain character are itself
 
-pub text_plain : (y : ℕ) → Plain y → written y ≡ y ∷ []
-text_plain y p = p.itself
-
-pub bare_plain : (y : ℕ) → Plain y → bare_char y ≡ y ∷ []
+bare_plain : (y : ℕ) → Plain y → written (bare y) ≡ y ∷ []
 unfolding bare
 bare_plain y p =
     let s = ne_eqb y star (λ e. omega (arith, e, p.small)) in
     let a = ne_eqb y any (λ e. omega (arith, e, p.small)) in
     rw (s, a) p.itself
 
-pub spelled_plain : (w : Bool) (y : ℕ) → Plain y → symbol w y ≡ y ∷ []
-spelled_plain w y p = sym (spelling_bare w y (p.bare w)) ∙ bare_plain y p
+pub piece_plain : (f : Form) (y : ℕ) → Plain y → piece f y ≡ y ∷ []
+piece_plain Text y p = p.itself
+piece_plain Action y p = bare_plain y p
+piece_plain (Entry w) y p = sym (spelling_bare w y (p.bare w)) ∙ bare_plain y p
 
 -- ---- what the pieces of all come to
 
-pub bytes_each : (bs : List ℕ) → held_each itself bs ≡ bs
-unfolding held_each
-bytes_each [] = refl
-bytes_each (b ∷ bs) = ap (λ (l : List ℕ). b ∷ l) (bytes_each bs)
-
-pub text_each : (cs : List ℕ) → held_each written cs ≡ written_text cs
+text_each : (cs : List ℕ) → held_each written cs ≡ written_text cs
 unfolding held_each written_text
 text_each [] = refl
 text_each (c ∷ cs) = ap (λ (l : List ℕ). written c ++ l) (text_each cs)
 
-pub spelled_each : (w : Bool) (ys : List ℕ) → held_each (symbol w) ys ≡ written_text (spelled w ys)
+spelled_each : (w : Bool) (ys : List ℕ) → held_each (piece (Entry w)) ys ≡ written_text (spelled w ys)
 unfolding held_each spelled written_text
 spelled_each w [] = refl
 spelled_each w (y ∷ ys) =
-    ap (λ (l : List ℕ). symbol w y ++ l) (spelled_each w ys) ∙ sym (text_append (spelling w y) (spelled w ys))
+    ap (λ (l : List ℕ). written_text (spelling w y) ++ l) (spelled_each w ys)
+    ∙ sym (text_append (spelling w y) (spelled w ys))
 
-pub bare_each : (ys : List ℕ) → held_each bare_char ys ≡ written_text (map bare ys)
+bare_each : (ys : List ℕ) → held_each (piece Action) ys ≡ written_text (map bare ys)
 unfolding held_each written_text
 bare_each [] = refl
-bare_each (y ∷ ys) = ap (λ (l : List ℕ). bare_char y ++ l) (bare_each ys)
+bare_each (y ∷ ys) = ap (λ (l : List ℕ). written (bare y) ++ l) (bare_each ys)
+
+pub pieces_each : (f : Form) (ys : List ℕ) → held_each (piece f) ys ≡ pieces f ys
+pieces_each Text ys = text_each ys
+pieces_each Action ys = bare_each ys
+pieces_each (Entry w) ys = spelled_each w ys

@@ -7,7 +7,11 @@ use native.Mathlib.Numerals.{add-one}
 use native.Mathlib.Omega.{arith}
 use lib.Dec.{eqb}
 use lib.ListN.{length, get_or}
-use borrow.Author.Tests.{eq-eqb, ne_eqb}
+use mathlib.Core.Bool.{Bool, true, false}
+use Rattle.chars.specs.Base.{pick}
+use Rattle.writing.specs.declared.spelling.Form.{Form}
+use Rattle.writing.specs.declared.spelling.Form.TheVariants.{Action, Entry}
+use Rattle.writing.specs.Spelling.{pieces, form_of}
 use Rattle.chars.specs.Written.{written_text}
 use Rattle.syntax.specs.Policy.{Value, text, number, Row, Policy}
 use Rattle.syntax.specs.Words.{condition_word}
@@ -16,6 +20,7 @@ use Rattle.held.specs.Lying.{Lies, Lying}
 use Rattle.held.proofs.Laws.Runs.{lies_first, lies_short}
 use Rattle.held.proofs.Laws.Places.{text_from, texted}
 use Rattle.writing.specs.WrittenForm.{bare, spelled, digits_of}
+use Rattle.writing.specs.declared.sink.Sink.{Sink}
 use Rattle.writing.specs.Showing.{Adds}
 use Rattle.writing.specs.Bytes.{name, between, listed, entry_body, turning, row_bytes, rows_from}
 use Rattle.writing.specs.Bytes.{condition_bytes}
@@ -24,37 +29,39 @@ use Rattle.writing.proofs.Laws.Telling.{Telling, Freely, Piece}
 
 -- ---- an entry between its quotes
 
-module _ {run out after : List ℕ} {p o next : ℕ} (k : ℕ) where
+form_pieces : (k : ℕ) (ys : List ℕ)
+    → pieces (form_of k) ys ≡ written_text (pick (eqb k 0) (map bare ys) (spelled (eqb k 2) ys))
+form_pieces k ys = by (eqb k 0)
+  where
+    by : (b : Bool)
+        → pieces (pick b Action (Entry (eqb k 2))) ys ≡ written_text (pick b (map bare ys) (spelled (eqb k 2) ys))
+    by true = refl
+    by false = refl
+
+module _ {run : List ℕ} {s t : Sink} {p : ℕ} (k : ℕ) where
   pub body_number :
       (x : Value) → Lies run p (held_value x) → mark ≤ get_or run p 0
-      → ((n : ℕ) → Lies run p (held_number n) → Adds (digits_of n) out o next after)
-      → Adds (entry_body k x) out o next after
+      → ((n : ℕ) → Lies run p (held_number n) → Adds (digits_of n) s t)
+      → Adds (entry_body k x) s t
   unfolding entry_body
   body_number (text cs) l h f = absurd (omega (arith, lies_first l, lies_short l))
   body_number (number n) l h f = f n l
 
-  pub body_bare :
-      (x : Value) → Lies run p (held_value x) → get_or run p 0 < mark → k ≡ 0
-      → Adds (written_text (map bare (text_from run p))) out o next after → Adds (entry_body k x) out o next after
+  pub body_text :
+      (x : Value) → Lies run p (held_value x) → get_or run p 0 < mark → {f : Form} → f ≡ form_of k
+      → Adds (pieces f (text_from run p)) s t → Adds (entry_body k x) s t
   unfolding entry_body
-  body_bare (text cs) l h e a =
-      rw (eq-eqb k 0 e) (adds_as (ap (λ (ys : List ℕ). written_text (map bare ys)) (texted cs l).is) a)
-  body_bare (number n) l h e a = absurd (omega (arith, lies_first l))
-
-  pub body_spelled :
-      (x : Value) → Lies run p (held_value x) → get_or run p 0 < mark → (k ≡ 0 → ⊥)
-      → Adds (written_text (spelled (eqb k 2) (text_from run p))) out o next after → Adds (entry_body k x) out o next after
-  unfolding entry_body
-  body_spelled (text cs) l h s a =
-      rw (ne_eqb k 0 s) (adds_as (ap (λ (ys : List ℕ). written_text (spelled (eqb k 2) ys)) (texted cs l).is) a)
-  body_spelled (number n) l h s a = absurd (omega (arith, lies_first l))
+  body_text (text cs) l h {f} e a =
+      adds_as (ap (λ (g : Form). pieces g (text_from run p)) e ∙ ap (pieces (form_of k)) (texted cs l).is
+      ∙ form_pieces k cs) a
+  body_text (number n) l h e a = absurd (omega (arith, lies_first l))
 
 -- ---- one thing of a list, behind i others
 
 pub listed_piece :
-    {A : Type 0} {h : A → List ℕ} (f : A → List ℕ) {run total out₀ out mid after : List ℕ} {o₀ n i p o o' o'' q : ℕ}
-    (w : Telling h (listed f) Freely run total out₀ o₀ n i p i out o) (x : A) (xs : List A) → q ≡ p + length (h x)
-    → Adds (between i) out o o' mid → Adds (f x) mid o' o'' after → Piece w x xs q (i + 1) after o''
+    {A : Type 0} {h : A → List ℕ} (f : A → List ℕ) {run total : List ℕ} {s₀ s t u : Sink} {n i p q : ℕ}
+    (w : Telling h (listed f) Freely run total s₀ n i p i s) (x : A) (xs : List A) → q ≡ p + length (h x)
+    → Adds (between i) s t → Adds (f x) t u → Piece w x xs q (i + 1) u
 unfolding listed
 listed_piece f {i = i} w x xs e a b =
     record {
@@ -69,24 +76,24 @@ listed_piece f {i = i} w x xs e a b =
 -- ---- one row, behind one of another operator
 
 pub row_piece :
-    {run total out₀ out mid after : List ℕ} {o₀ n i p s o o' o'' q k : ℕ}
-    (w : Telling held_row rows_from Freely run total out₀ o₀ n i p s out o) (x : Row) (xs : List Row)
-    → q ≡ p + length (held_row x) → k ≡ operator_number x.operator → Adds (turning s k) out o o' mid
-    → Adds (row_bytes x) mid o' o'' after → Piece w x xs q k after o''
+    {run total : List ℕ} {s₀ s t u : Sink} {n i p j q k : ℕ}
+    (w : Telling held_row rows_from Freely run total s₀ n i p j s) (x : Row) (xs : List Row)
+    → q ≡ p + length (held_row x) → k ≡ operator_number x.operator → Adds (turning j k) s t
+    → Adds (row_bytes x) t u → Piece w x xs q k u
 unfolding rows_from
-row_piece {s = s} {k = k} w x xs e g a b =
+row_piece {j = j} {k = k} w x xs e g a b =
     record {
       far = e;
-      piece = turning s k ++ row_bytes x;
+      piece = turning j k ++ row_bytes x;
       adds = adds_then a b;
-      tells = ap (λ (j : ℕ). turning s j ++ (row_bytes x ++ rows_from j xs)) (sym g)
-          ∙ sym (append_assoc (turning s k) (row_bytes x) (rows_from k xs));
+      tells = ap (λ (m : ℕ). turning j m ++ (row_bytes x ++ rows_from m xs)) (sym g)
+          ∙ sym (append_assoc (turning j k) (row_bytes x) (rows_from k xs));
       known = tt;
     }
 
 pub condition_none :
-    (xs : List Row) {at : ℕ} {out : List ℕ} → length xs ≡ 0 → Adds (condition_bytes xs) out at at out
-condition_none [] {at} {out} e = adds_none out at
+    (xs : List Row) {s : Sink} → length xs ≡ 0 → Adds (condition_bytes xs) s s
+condition_none [] {s} e = adds_none s
 condition_none (x ∷ xs) e = absurd (omega (arith, e))
 
 pub condition_some :

@@ -13,6 +13,7 @@ use Rattle.held.specs.Held.{effect_number}
 use Rattle.syntax.specs.Words.{sid_word, effect_word, action_word, allow_word, deny_word}
 use Rattle.syntax.specs.Words.{string_equals_word, string_like_word, numeric_less_than_equals_word}
 use Rattle.writing.specs.WrittenForm.{bare, is_escaped, spelling, digits_up_to}
+use Rattle.writing.specs.declared.sink.Sink.{Sink}
 use Rattle.writing.specs.Showing.{Adds}
 use Rattle.writing.specs.Bytes.{name, operator_name, ending, turning, sid_bytes, effect_bytes, head_bytes}
 use Rattle.writing.proofs.Laws.Showing.{adds_none}
@@ -86,8 +87,8 @@ module _ (k : ℕ) where
 
 -- ---- what stands before a row
 
-pub ending_none : {k at : ℕ} {out : List ℕ} → k ≡ 0 → Adds (ending k) out at at out
-ending_none {k} {at} {out} e = subst (λ (j : ℕ). Adds (ending j) out at at out) (sym e) (adds_none out at)
+pub ending_none : {k : ℕ} {s : Sink} → k ≡ 0 → Adds (ending k) s s
+ending_none {k} {s} e = subst (λ (j : ℕ). Adds (ending j) s s) (sym e) (adds_none s)
 
 pub ending_some : (k : ℕ) → (k ≡ 0 → ⊥) → 125 ∷ 44 ∷ [] ≡ ending k
 ending_some zero s = absurd (s refl)
@@ -116,8 +117,8 @@ head_before x zs =
     ap (λ (l : List ℕ). 123 ∷ l) (append_assoc (sid_bytes x.sid) (e ++ name action_word) zs
     ∙ ap (λ (l : List ℕ). sid_bytes x.sid ++ l) (append_assoc e (name action_word) zs))
 
-pub sid_none : (cs : List ℕ) {at : ℕ} {out : List ℕ} → length cs ≡ 0 → Adds (sid_bytes cs) out at at out
-sid_none [] {at} {out} e = adds_none out at
+pub sid_none : (cs : List ℕ) {s : Sink} → length cs ≡ 0 → Adds (sid_bytes cs) s s
+sid_none [] {s} e = adds_none s
 sid_none (c ∷ cs) e = absurd (omega (arith, e))
 
 pub sid_some :

@@ -1,22 +1,21 @@
 -- Plain characters: what the tests let pass, and how they are put one behind another.
 use mathlib.Core.Path.{◌≡◌, refl, sym, ap, ◌∙◌, subst}
 use mathlib.Core.Bool.{Bool, true, false, not, ◌&&◌}
-use mathlib.Core.List.{List, [], ◌++◌}
+use mathlib.Core.List.{List, [], ◌∷◌, ◌++◌, append-nil, append_assoc}
 use Prim.Native.Nat.{ℕ, zero, suc, ◌+◌, ◌-◌, ◌≤◌, ◌<◌}
 use native.Mathlib.Omega.{arith}
 use lib.Dec.{eqb, ltb}
-use lib.ListN.{length, get_or, drop, set}
-use lib.Seq.{get_or-take, get_or-drop}
+use lib.ListN.{length, get_or, take, drop, set, length-append, length-drop, drop_of_length-le}
+use lib.Seq.{take_all, take-add, drop-drop, drop-cons, sets, sets-eq, length-take-le, take-append_seam, drop-append_seam}
+use borrow.Rule.Slice.PartMut.{put_mid}
 use borrow.Author.Tests.{ltb-true, eqb-false, ne_eqb, not-true}
-use Rattle.chars.specs.Base.{part}
 use Rattle.chars.proofs.Laws.Tests.{each_true}
 use Rattle.chars.proofs.Laws.Written.Forms.{written_bare}
-use Rattle.text.proofs.Laws.Parts.{part_length, part_empty, part_append, part_one}
 use Rattle.writing.specs.Valid.{none, more}
 use Rattle.writing.specs.WrittenForm.{is_escaped}
-use Rattle.writing.specs.Showing.{Adds}
-use Rattle.writing.specs.Plain.{Plain, AllPlain, PlainPut, PlainTo}
-use Rattle.writing.proofs.Laws.Showing.{adds_none, adds_then, adds_as, byte_in}
+use Rattle.writing.specs.declared.sink.Sink.{Sink}
+use Rattle.writing.specs.Plain.{Plain, AllPlain, PlainPut, AddsPlain}
+use Rattle.writing.proofs.Laws.Showing.{adds_none, adds_in}
 use Rattle.writing.proofs.Laws.Chars.{plain_bare, any_escaped}
 
 -- ---- one character
@@ -55,98 +54,103 @@ all_append : {xs ys : List ℕ} → AllPlain xs → AllPlain ys → AllPlain (xs
 all_append none q = q
 all_append (more p ps) q = more p (all_append ps q)
 
-all_at : {xs : List ℕ} (k : ℕ) → AllPlain xs → k < length xs → Plain (get_or xs k 0)
+pub all_at : {xs : List ℕ} (k : ℕ) → AllPlain xs → k < length xs → Plain (get_or xs k 0)
 all_at k none h = absurd (omega arith)
 all_at zero (more p ps) h = p
 all_at (suc k) (more p ps) h = all_at k ps (omega arith)
 
-part_next : (ys : List ℕ) (i n k : ℕ) → part ys i (i + n) ++ part ys (i + n) (i + n + k) ≡ part ys i (i + (n + k))
-part_next ys i n k =
-    let e : i + n + k ≡ i + (n + k) = omega arith in
-    part_append ys i (i + n) (i + n + k) (omega arith) (omega arith) ∙ ap (part ys i) e
+all_next : (ys : List ℕ) (n k : ℕ) → AllPlain (take n ys) → AllPlain (take k (drop n ys)) → AllPlain (take (n + k) ys)
+all_next ys n k p q = subst AllPlain (sym (take-add n k ys)) (all_append p q)
 
-part_none : (ys : List ℕ) (i : ℕ) → part ys i (i + 0) ≡ []
-part_none ys i =
-    let e : i + 0 ≡ i = omega arith in
-    ap (part ys i) e ∙ part_empty ys i
+one_is : (ys : List ℕ) (n : ℕ) → n < length ys → take 1 (drop n ys) ≡ get_or ys n 0 ∷ []
+one_is ys n h = ap (take 1) (drop-cons ys n 0 h)
 
-plain_one : (ys : List ℕ) (i : ℕ) → i < length ys → Plain (get_or ys i 0) → AllPlain (part ys i (i + 1))
-plain_one ys i h q = subst AllPlain (sym (part_one ys i h)) (more q none)
+pub all_one : (ys : List ℕ) (n : ℕ) → n < length ys → AllPlain (take n ys) → Plain (get_or ys n 0)
+    → AllPlain (take (n + 1) ys)
+all_one ys n h p q = all_next ys n 1 p (subst AllPlain (sym (one_is ys n h)) (more q none))
 
-module _ (ys : List ℕ) (i : ℕ) where
-  pub plain_none : AllPlain (part ys i (i + 0))
-  plain_none = subst AllPlain (sym (part_none ys i)) none
+-- ---- put at the beginning
 
-  plain_then : (n k : ℕ) → AllPlain (part ys i (i + n)) → AllPlain (part ys (i + n) (i + n + k))
-      → AllPlain (part ys i (i + (n + k)))
-  plain_then n k p q = subst AllPlain (part_next ys i n k) (all_append p q)
+pub put_start : (ys out : List ℕ) → PlainPut ys 0 out out
+put_start ys out = record { inside = omega arith; room = omega arith; plain = none; is = refl }
 
-  pub plain_next : (n : ℕ) → i + n < length ys → AllPlain (part ys i (i + n)) → Plain (get_or ys (i + n) 0)
-      → AllPlain (part ys i (i + (n + 1)))
-  plain_next n h p q = plain_then n 1 p (plain_one ys (i + n) h q)
+module _ {ys out mid : List ℕ} {n : ℕ} (w : PlainPut ys n out mid) where
+  pub put_size : length mid ≡ length out
+  put_size =
+      ap length w.is
+      ∙ omega (arith, length-append (take n ys) (drop n out), length-take-le n ys w.inside, length-drop n out, w.room)
 
-  pub plain_at : (n j : ℕ) → i + n ≤ length ys → AllPlain (part ys i (i + n)) → j < n → Plain (get_or ys (i + j) 0)
-  plain_at n j h p k =
-      let l = part_length ys i (i + n) (omega arith) h in
-      let e : get_or (part ys i (i + n)) j 0 ≡ get_or ys (i + j) 0 =
-      get_or-take (i + n - i) (drop i ys) j 0 (omega arith) ∙ get_or-drop i ys j 0 in
-      subst Plain e (all_at j p (omega arith))
+  front : length (take n ys) ≡ n
+  front = length-take-le n ys w.inside
 
-  -- ---- put one behind another
+  -- behind it, what stood there before
+  rest : drop n mid ≡ drop n out
+  rest =
+      ap (drop n) w.is ∙ ap (λ (k : ℕ). drop k (take n ys ++ drop n out)) (sym front)
+      ∙ drop-append_seam (take n ys) (drop n out)
 
-  pub bytes_none : (out : List ℕ) (at : ℕ) → Adds (part ys i (i + 0)) out at (at + 0) out
-  bytes_none out at =
-      let e : at ≡ at + 0 = omega arith in
-      subst (λ (k : ℕ). Adds (part ys i (i + 0)) out at k out) e (adds_as (sym (part_none ys i)) (adds_none out at))
+  before : take n mid ≡ take n ys
+  before =
+      ap (take n) w.is ∙ ap (λ (k : ℕ). take k (take n ys ++ drop n out)) (sym front)
+      ∙ take-append_seam (take n ys) (drop n out)
 
-  bytes_then : {out mid after : List ℕ} {at : ℕ} (n k : ℕ) → Adds (part ys i (i + n)) out at (at + n) mid
-      → Adds (part ys (i + n) (i + n + k)) mid (at + n) (at + n + k) after
-      → Adds (part ys i (i + (n + k))) out at (at + (n + k)) after
-  bytes_then {out} {mid} {after} {at} n k p q =
-      let e : at + n + k ≡ at + (n + k) = omega arith in
-      subst (λ (l : ℕ). Adds (part ys i (i + (n + k))) out at l after) e (adds_as (part_next ys i n k) (adds_then p q))
-
-  byte_put : {out : List ℕ} {at : ℕ} (n : ℕ) → i + n < length ys → at < length out
-      → Adds (part ys (i + n) (i + n + 1)) out at (at + 1) (set out at (get_or ys (i + n) 0))
-  byte_put n h g = adds_as (sym (part_one ys (i + n) h)) (byte_in (get_or ys (i + n) 0) g)
-
-  pub bytes_next : {out mid : List ℕ} {at : ℕ} (n : ℕ) → Adds (part ys i (i + n)) out at (at + n) mid
-      → i + n < length ys → at + n < length mid
-      → Adds (part ys i (i + (n + 1))) out at (at + (n + 1)) (set mid (at + n) (get_or ys (i + n) 0))
-  bytes_next n p h g = bytes_then n 1 p (byte_put n h g)
-
--- ---- as many as were put
-
-pub put_none :
-    {ys out : List ℕ} {i at : ℕ} → i ≤ length ys → at ≤ length out → PlainPut ys i 0 out at out
-put_none {ys} {out} {i} {at} h g =
-    record { inside = omega arith; room = omega arith; plain = plain_none ys i; adds = bytes_none ys i out at }
-
-module _ {ys out mid : List ℕ} {i n at : ℕ} (p : PlainPut ys i n out at mid) where
-  pub put_then : (k : ℕ) {after : List ℕ} → i + n + k ≤ length ys → at + n + k ≤ length mid
-      → AllPlain (part ys (i + n) (i + n + k)) → Adds (part ys (i + n) (i + n + k)) mid (at + n) (at + n + k) after
-      → PlainPut ys i (n + k) out at after
-  put_then k h g q a =
+  pub put_then :
+      (k : ℕ) {m : ℕ} {zs : List ℕ} → m ≡ k → n + k ≤ length ys → n + k ≤ length out → AllPlain (take k (drop n ys))
+      → zs ≡ take k (drop n ys) → PlainPut ys (n + k) out (put_mid n m mid zs)
+  put_then k {m} {zs} j h g p e =
       record {
-        inside = omega arith;
-        room = omega (arith, p.adds.size);
-        plain = plain_then ys i n k p.plain q;
-        adds = bytes_then ys i n k p.adds a;
+        inside = h;
+        room = g;
+        plain = all_next ys n k w.plain p;
+        is = ap (λ (i : ℕ). take n mid ++ (zs ++ drop i (drop n mid))) j
+            ∙ ap (λ (l : List ℕ). l ++ (zs ++ drop k (drop n mid))) before
+            ∙ ap (λ (l : List ℕ). take n ys ++ (l ++ drop k (drop n mid))) e
+            ∙ ap (λ (l : List ℕ). take n ys ++ (take k (drop n ys) ++ drop k l)) rest
+            ∙ sym (append_assoc (take n ys) (take k (drop n ys)) (drop k (drop n out)))
+            ∙ ap (λ (l : List ℕ). l ++ drop k (drop n out)) (sym (take-add n k ys))
+            ∙ ap (λ (l : List ℕ). take (n + k) ys ++ l) (drop-drop k n out);
       }
 
-  pub put_next : i + n < length ys → at + n < length mid → Plain (get_or ys (i + n) 0)
-      → PlainPut ys i (n + 1) out at (set mid (at + n) (get_or ys (i + n) 0))
+  pub put_next : n < length ys → n < length mid → Plain (get_or ys n 0) → PlainPut ys (n + 1) out (set mid n (get_or ys n 0))
   put_next h g q =
-      put_then 1 (omega arith) (omega arith) (plain_one ys (i + n) h q) (byte_put ys i n h g)
+      let one = one_is ys n h in
+      let p : AllPlain (take 1 (drop n ys)) = subst AllPlain (sym one) (more q none) in
+      subst (PlainPut ys (n + 1) out) (set_is mid n (get_or ys n 0) g)
+      (put_then 1 refl (omega arith) (omega (arith, put_size)) p (sym one))
+    where
+      set_is : (xs : List ℕ) (k b : ℕ) → k < length xs → put_mid k 1 xs (b ∷ []) ≡ set xs k b
+      set_is xs k b m =
+          sym (append_assoc (take k xs) (b ∷ []) (drop 1 (drop k xs)))
+          ∙ ap (λ (l : List ℕ). take k xs ++ (b ∷ []) ++ l) (drop-drop 1 k xs)
+          ∙ sym (sets-eq (b ∷ []) xs k (omega arith))
 
--- ---- up to where
+-- ---- put by a sink
 
-pub to_none : {ys : List ℕ} {i : ℕ} (out : List ℕ) (at : ℕ) → i ≤ length ys
-    → PlainTo ys i out at (record { next = at; i = i }) out
-to_none {ys} {i} out at h =
+pub plain_none : (ys : List ℕ) (s : Sink) → AddsPlain ys 0 s s
+plain_none ys s = record { inside = omega arith; plain = none; adds = adds_none s }
+
+pub plain_added :
+    {s t : Sink} {ys xs : List ℕ} {n k : ℕ} → s.at ≤ length s.room.now → k ≡ length s.room.now - s.at
+    → PlainPut ys n (take k (drop s.at s.room.now)) xs → t.room.now ≡ put_mid s.at k s.room.now xs
+    → t.at ≡ s.at + n → t.over ≡ s.over → AddsPlain ys n s t
+plain_added {s} {t} {ys} {xs} {n} {k} h e w is place same =
+    let out = s.room.now in
+    let long : length (take n ys) ≡ n = length-take-le n ys w.inside in
+    let room : take k (drop s.at out) ≡ drop s.at out = take_all k (drop s.at out) (omega (arith, e, length-drop s.at out)) in
+    let none : drop k (drop s.at out) ≡ [] =
+    drop_of_length-le (drop s.at out) {i = k} (omega (arith, e, length-drop s.at out)) in
+    let fits : s.at + length (take n ys) ≤ length out =
+    omega (arith, long, h, w.room, ap length room, length-drop s.at out) in
+    let stands : t.room.now ≡ sets out s.at (take n ys) =
+    is ∙ ap (λ (l : List ℕ). take s.at out ++ (xs ++ l)) none
+    ∙ ap (λ (l : List ℕ). take s.at out ++ l) (append-nil xs ∙ w.is)
+    ∙ ap (λ (l : List ℕ). take s.at out ++ (take n ys ++ drop n l)) room
+    ∙ ap (λ (l : List ℕ). take s.at out ++ (take n ys ++ l)) (drop-drop n s.at out)
+    ∙ ap (λ (i : ℕ). take s.at out ++ (take n ys ++ drop (s.at + i) out)) (sym long)
+    ∙ sym (append_assoc (take s.at out) (take n ys) (drop (s.at + length (take n ys)) out))
+    ∙ sym (sets-eq (take n ys) out s.at fits) in
     record {
-      order = omega arith;
-      inside = h;
-      plain = subst AllPlain (sym (part_empty ys i)) none;
-      adds = adds_as (sym (part_empty ys i)) (adds_none out at);
+      inside = w.inside;
+      plain = w.plain;
+      adds = adds_in (take n ys) fits stands (omega (arith, place, long)) same;
     }

@@ -1,113 +1,131 @@
--- What a run of bytes shows: things added one behind the other, and what it shows in the end.
+-- What a sink shows: things added one behind the other, and what it shows in the end.
+--   shows_new               nothing yet
 --   adds_none, adds_then    nothing, and one thing behind another
---   byte-over, byte_in      a byte behind the end, and one inside
---   put-over, put-in        the same for bytes that are put all or not at all
---   shows_end, shows_over   what the place at the end tells
+--   adds_over, adds_in      bytes that do not fit, and bytes that are put
+--   put_short, put_whole    the same for bytes that are put all or not at all
+--   shows_size, shows_end   what is told in the end
 use mathlib.Core.Path.{◌≡◌, refl, sym, ap, ◌∙◌, subst}
+use mathlib.Core.Bool.{false}
 use mathlib.Core.List.{List, [], ◌∷◌, ◌++◌, append-nil, append_assoc}
-use Prim.Native.Nat.{ℕ, suc, ◌+◌, ◌≤◌, ◌<◌}
+use Prim.Native.Nat.{ℕ, ◌+◌, ◌≤◌, ◌<◌}
 use native.Mathlib.Omega.{arith}
 use native.Mathlib.Decide.{dec_lt}
 use lib.ListN.{length, set, take, drop, length-append}
-use lib.Seq.{sets, sets-eq, length-sets, take-append_seam}
+use lib.Seq.{sets, sets-eq, length-sets, take-append_seam, drop-drop}
+use borrow.Rule.Slice.PartMut.{put_mid}
+use Rattle.std.specs.Prelude.{Option, Some, None}
 use Rattle.chars.specs.Putting.{put_at}
 use Rattle.chars.proofs.Laws.Putting.{put_fit, put_none}
-use Rattle.syntax.specs.Limits.{result_bytes}
-use Rattle.writing.specs.Showing.{Shows, whole, over, Adds}
+use Rattle.writing.specs.declared.sink.Sink.{Sink}
+use Rattle.writing.specs.Showing.{Shows, whole, over, Adds, Ends}
 
-pub shows_none : (out : List ℕ) → length out ≤ result_bytes → Shows [] 0 out
-shows_none out e = whole e out refl refl
+pub shows_new : {s : Sink} → s.at ≡ 0 → s.over ≡ false → Shows [] s
+shows_new {s} p o = whole o p s.room.now refl
 
 -- ---- one thing behind another
 
-pub adds_none : (out : List ℕ) (at : ℕ) → Adds [] out at at out
-adds_none out at =
-    record { size = refl; adds = λ ws s. subst (λ (l : List ℕ). Shows l at out) (sym (append-nil ws)) s }
+pub adds_none : (s : Sink) → Adds [] s s
+adds_none s = record { size = refl; adds = λ ws h. subst (λ (l : List ℕ). Shows l s) (sym (append-nil ws)) h }
 
-pub adds_then :
-    {xs bs out mid after : List ℕ} {at next last : ℕ} → Adds xs out at next mid → Adds bs mid next last after
-    → Adds (xs ++ bs) out at last after
-adds_then {xs} {bs} {out} {mid} {after} {at} {next} {last} p q =
+pub adds_then : {xs bs : List ℕ} {s t u : Sink} → Adds xs s t → Adds bs t u → Adds (xs ++ bs) s u
+adds_then {xs} {bs} {s} {t} {u} p q =
     record {
       size = q.size ∙ p.size;
-      adds = λ ws s. subst (λ (l : List ℕ). Shows l last after) (append_assoc ws xs bs)
-          (q.adds (ws ++ xs) (p.adds ws s));
+      adds = λ ws h. subst (λ (l : List ℕ). Shows l u) (append_assoc ws xs bs) (q.adds (ws ++ xs) (p.adds ws h));
     }
 
-pub adds_as : {xs bs out after : List ℕ} {at next : ℕ} → xs ≡ bs → Adds xs out at next after → Adds bs out at next after
-adds_as {xs} {bs} {out} {after} {at} {next} e p = subst (λ (l : List ℕ). Adds l out at next after) e p
+pub adds_as : {xs bs : List ℕ} {s t : Sink} → xs ≡ bs → Adds xs s t → Adds bs s t
+adds_as {xs} {bs} {s} {t} e p = subst (λ (l : List ℕ). Adds l s t) e p
 
 -- ---- bytes that are put
 
 -- what does not fit is over
 over_now :
-    {ws out : List ℕ} {at : ℕ} (bs : List ℕ) → Shows ws at out → length out < at + length bs
-    → Shows (ws ++ bs) (suc result_bytes) out
-over_now {ws} bs (whole n rest e p) h = over n (omega (arith, length-append ws bs)) refl
-over_now {ws} bs (over n m p) h = over n (omega (arith, length-append ws bs)) refl
+    {ws : List ℕ} {s t : Sink} (bs : List ℕ) → Ends s t → length s.room.now < s.at + length bs → Shows ws s
+    → Shows (ws ++ bs) t
+over_now {ws} bs e h (whole o p rest q) =
+    over e.over (omega (arith, e.place, ap length e.room)) (omega (arith, length-append ws bs, p, ap length e.room))
+over_now {ws} bs e h (over o p n) =
+    over e.over (omega (arith, e.place, ap length e.room)) (omega (arith, length-append ws bs, ap length e.room))
 
-pub adds_over :
-    {out : List ℕ} {at : ℕ} (bs : List ℕ) → length out < at + length bs → Adds bs out at (suc result_bytes) out
-adds_over bs h = record { size = refl; adds = λ ws s. over_now bs s h }
+pub adds_over : {s t : Sink} (bs : List ℕ) → Ends s t → length s.room.now < s.at + length bs → Adds bs s t
+adds_over bs e h = record { size = ap length e.room; adds = λ ws w. over_now bs e h w }
 
 put_now :
-    {ws out : List ℕ} {at : ℕ} (bs : List ℕ) → Shows ws at out → at + length bs ≤ length out
-    → Shows (ws ++ bs) (at + length bs) (take at out ++ bs ++ drop (at + length bs) out)
-put_now {ws} {out} {at} bs (over n m p) h = absurd (omega (arith, n, p, h))
-put_now {ws} {out} {at} bs (whole n rest e p) h =
-    let behind = drop (at + length bs) out in
-    let before : take at out ≡ ws = ap (λ (k : ℕ). take k out) p ∙ ap (take (length ws)) e ∙ take-append_seam ws rest in
-    let is : take at out ++ bs ++ behind ≡ (ws ++ bs) ++ behind =
-    ap (λ (l : List ℕ). l ++ bs ++ behind) before in
-    whole (omega (arith, size, n)) behind is (omega (arith, p, length-append ws bs))
-  where
-    size : length (take at out ++ bs ++ drop (at + length bs) out) ≡ length out
-    size = ap length (sym (sets-eq bs out at h)) ∙ length-sets out at bs
+    {ws : List ℕ} {s t : Sink} (bs : List ℕ) → s.at + length bs ≤ length s.room.now → t.room.now ≡ sets s.room.now s.at bs
+    → t.at ≡ s.at + length bs → t.over ≡ s.over → length t.room.now ≡ length s.room.now → Shows ws s → Shows (ws ++ bs) t
+put_now {ws} {s} {t} bs h is place same size (over o p n) =
+    over (same ∙ o) (omega (arith, place, size, p)) (omega (arith, size, n, length-append ws bs))
+put_now {ws} {s} {t} bs h is place same size (whole o p rest e) =
+    let behind = drop (s.at + length bs) s.room.now in
+    let before : take s.at s.room.now ≡ ws =
+    ap (λ (k : ℕ). take k s.room.now) p ∙ ap (take (length ws)) e ∙ take-append_seam ws rest in
+    whole (same ∙ o) (omega (arith, place, p, length-append ws bs)) behind
+    (is ∙ sets-eq bs s.room.now s.at h ∙ ap (λ (l : List ℕ). l ++ bs ++ behind) before)
 
 pub adds_in :
-    {out : List ℕ} {at : ℕ} (bs : List ℕ) → at + length bs ≤ length out
-    → Adds bs out at (at + length bs) (sets out at bs)
-adds_in {out} {at} bs h =
-    record {
-      size = length-sets out at bs;
-      adds = λ ws s. subst (λ (l : List ℕ). Shows (ws ++ bs) (at + length bs) l) (sym (sets-eq bs out at h))
-          (put_now bs s h);
-    }
+    {s t : Sink} (bs : List ℕ) → s.at + length bs ≤ length s.room.now → t.room.now ≡ sets s.room.now s.at bs
+    → t.at ≡ s.at + length bs → t.over ≡ s.over → Adds bs s t
+adds_in {s} bs h is place same =
+    let size = ap length is ∙ length-sets s.room.now s.at bs in
+    record { size = size; adds = λ ws w. put_now bs h is place same size w }
 
 -- a byte that is stored
-pub byte_in : {out : List ℕ} {at : ℕ} (b : ℕ) → at < length out → Adds (b ∷ []) out at (at + 1) (set out at b)
-byte_in b h = adds_in (b ∷ []) (omega arith)
+pub byte_in :
+    {s t : Sink} (b : ℕ) → s.at < length s.room.now → t.room.now ≡ set s.room.now s.at b → t.at ≡ s.at + 1
+    → t.over ≡ s.over → Adds (b ∷ []) s t
+byte_in b h is place same = adds_in (b ∷ []) (omega arith) is place same
 
--- bytes that are put all or not at all, and the place behind them tells which
-module _ {out after bs : List ℕ} {at next : ℕ} (some : 0 < length bs) (e : (next, after) ≡ put_at out at bs) where
-  pub put_short : next ≡ at → Adds bs out at (suc result_bytes) after
-  put_short s = by (dec_lt (length out) (at + length bs))
+-- bytes that are stored together, as a part of so many
+pub stored_in :
+    {s t : Sink} {bs ys : List ℕ} {n : ℕ} → s.at + length bs ≤ length s.room.now → n ≡ length bs → ys ≡ bs
+    → t.room.now ≡ put_mid s.at n s.room.now ys → t.at ≡ s.at + length bs → t.over ≡ s.over → Adds bs s t
+stored_in {s} {t} {bs} {ys} {n} h e y is place same =
+    let out = s.room.now in
+    adds_in bs h
+    (is ∙ sym (append_assoc (take s.at out) ys (drop n (drop s.at out)))
+    ∙ ap (λ (l : List ℕ). take s.at out ++ l ++ drop n (drop s.at out)) y
+    ∙ ap (λ (k : ℕ). take s.at out ++ bs ++ drop k (drop s.at out)) e
+    ∙ ap (λ (l : List ℕ). take s.at out ++ bs ++ l) (drop-drop (length bs) s.at out)
+    ∙ sym (sets-eq bs out s.at h))
+    place same
+
+-- bytes that are put all or not at all, and an answer tells which
+none_some : {n : ℕ} → ◌≡◌ {A = Option ℕ} None (Some n) → ⊥
+none_some q = cc
+
+some_same : {n m : ℕ} → ◌≡◌ {A = Option ℕ} (Some n) (Some m) → n ≡ m
+some_same q = cc
+
+module _ (out bs : List ℕ) (at : ℕ) {after : List ℕ} {o : Option ℕ} (e : (o, after) ≡ put_at out at bs) where
+  short_is : o ≡ None → length out < at + length bs
+  short_is n = by (dec_lt (length out) (at + length bs))
     where
-      by : Dec (length out < at + length bs) → Adds bs out at (suc result_bytes) after
-      by (yes h) =
-          subst (λ (l : List ℕ). Adds bs out at (suc result_bytes) l)
-          (sym (ap (λ (r : ℕ × List ℕ). r.1) (e ∙ put_none out at bs h))) (adds_over bs h)
-      by (no h) =
-          let f : next ≡ at + length bs = ap (λ (r : ℕ × List ℕ). r.0) (e ∙ put_fit out at bs (omega arith)) in
-          absurd (omega (arith, f, s, some))
+      by : Dec (length out < at + length bs) → length out < at + length bs
+      by (yes h) = h
+      by (no h) = absurd (none_some (sym n ∙ ap (λ (r : Option ℕ × List ℕ). r.0) (e ∙ put_fit out at bs (omega arith))))
 
-  pub put_whole : (next ≡ at → ⊥) → Adds bs out at next after
-  put_whole s = by (dec_lt (length out) (at + length bs))
+  long_is : {next : ℕ} → o ≡ Some next → at + length bs ≤ length out
+  long_is n = by (dec_lt (length out) (at + length bs))
     where
-      by : Dec (length out < at + length bs) → Adds bs out at next after
-      by (yes h) = absurd (s (ap (λ (r : ℕ × List ℕ). r.0) (e ∙ put_none out at bs h)))
-      by (no h) =
-          let f = e ∙ put_fit out at bs (omega arith) in
-          subst (λ (r : ℕ × List ℕ). Adds bs out at r.0 r.1) (sym f) (adds_in bs (omega arith))
+      by : Dec (length out < at + length bs) → at + length bs ≤ length out
+      by (yes h) = absurd (none_some (sym (ap (λ (r : Option ℕ × List ℕ). r.0) (e ∙ put_none out at bs h)) ∙ n))
+      by (no h) = omega arith
 
--- ---- in the end
+pub put_short :
+    {s t u : Sink} {after bs : List ℕ} {o : Option ℕ} → (o, after) ≡ put_at s.room.now s.at bs → o ≡ None
+    → u.room.now ≡ after → Ends u t → Adds bs s t
+put_short {s} {t} {u} {after} {bs} e n is d =
+    let h = short_is s.room.now bs s.at e n in
+    let same : u.room.now ≡ s.room.now =
+    is ∙ ap (λ (r : Option ℕ × List ℕ). r.1) (e ∙ put_none s.room.now s.at bs h) in
+    adds_over bs (record { room = d.room ∙ same; place = d.place ∙ ap length same; over = d.over }) h
 
-pub shows_end : {ws out : List ℕ} {at : ℕ} → Shows ws at out → at ≤ result_bytes → (length ws ≡ at) × (take at out ≡ ws)
-shows_end {ws} {out} {at} (whole n rest e p) h =
-    (sym p, ap (λ (k : ℕ). take k out) p ∙ ap (take (length ws)) e ∙ take-append_seam ws rest)
-shows_end {at = at} (over n m p) h = absurd (omega (arith, p, h))
-
-pub shows_over : {ws out : List ℕ} {at : ℕ} → length out ≡ result_bytes → Shows ws at out → result_bytes < at
-    → result_bytes < length ws
-shows_over size (whole n rest e p) h = omega (arith, p, h)
-shows_over size (over n m p) h = omega (arith, size, m)
+pub put_whole :
+    {s t : Sink} {after bs : List ℕ} {o : Option ℕ} {next : ℕ} → (o, after) ≡ put_at s.room.now s.at bs → o ≡ Some next
+    → t.room.now ≡ after → t.at ≡ next → t.over ≡ s.over → Adds bs s t
+put_whole {s} {t} {after} {bs} e n is place same =
+    let h = long_is s.room.now bs s.at e n in
+    let f = e ∙ put_fit s.room.now s.at bs h in
+    adds_in bs h (is ∙ ap (λ (r : Option ℕ × List ℕ). r.1) f)
+    (place ∙ some_same (sym n ∙ ap (λ (r : Option ℕ × List ℕ). r.0) f)) same

@@ -10,26 +10,27 @@ use Rattle.held.specs.Held.{held_each, held_list}
 use Rattle.held.specs.Lying.{Lies, Lying}
 use Rattle.held.proofs.Laws.Runs.{lies_first, lies_next}
 use Rattle.held.proofs.Laws.Coming.{Coming, coming_now, coming_end}
+use Rattle.writing.specs.declared.sink.Sink.{Sink}
 use Rattle.writing.specs.Showing.{Adds}
 use Rattle.writing.proofs.Laws.Showing.{adds_none, adds_then, adds_as}
 
 -- Of n things i are told and the others lie from p on. What t tells of those, behind the state s, stands behind what
--- was added since out₀ and o₀; P says what is known of them there.
+-- was added since k₀; P says what is known of them there.
 module _ {A S : Type 0} (h : A → List ℕ) (t : S → List A → List ℕ) (P : S → List A → Type 0)
-    (run total out₀ : List ℕ) (o₀ : ℕ) where
-  pub record Telling (n i p : ℕ) (s : S) (out : List ℕ) (o : ℕ) : Type 0 where
+    (run total : List ℕ) (k₀ : Sink) where
+  pub record Telling (n i p : ℕ) (s : S) (k : Sink) : Type 0 where
     pub done : List ℕ
-    pub adds : Adds done out₀ o₀ o out
+    pub adds : Adds done k₀ k
     pub coming : Coming h run n i p (λ xs. done ++ t s xs) total
     pub known : P s coming.rest
 
 -- whichever n things lie there, the first being told behind the state s₀
 abbrev pub Tellings :
     {A S : Type 0} → (A → List ℕ) → (S → List A → List ℕ) → (S → List A → Type 0) → S → (run : List ℕ) (from : ℕ)
-    (out₀ : List ℕ) (o₀ n i p : ℕ) → S → List ℕ → ℕ → Type 0
-Tellings {A} h t P s₀ run from out₀ o₀ n i p s out o =
+    (k₀ : Sink) (n i p : ℕ) → S → Sink → Type 0
+Tellings {A} h t P s₀ run from k₀ n i p s k =
     (all : List A) → n ≡ length all → Lies run from (held_each h all) → P s₀ all
-    → Telling h t P run (t s₀ all) out₀ o₀ n i p s out o
+    → Telling h t P run (t s₀ all) k₀ n i p s k
 
 -- where nothing more is to be known
 abbrev pub Freely : {A S : Type 0} → S → List A → Type 0
@@ -38,23 +39,23 @@ Freely s xs = Unit {0}
 module _ {A S : Type 0} {h : A → List ℕ} {t : S → List A → List ℕ} {P : S → List A → Type 0} {run : List ℕ} where
   -- of a list, behind its number
   pub list_told :
-      {out₀ out : List ℕ} {o₀ at i p o : ℕ} {s₀ s : S} (xs : List A) → Lies run at (held_list h xs) → P s₀ xs
-      → Tellings h t P s₀ run (at + 1) out₀ o₀ (get_or run at 0) i p s out o
-      → Telling h t P run (t s₀ xs) out₀ o₀ (get_or run at 0) i p s out o
+      {k₀ k : Sink} {at i p : ℕ} {s₀ s : S} (xs : List A) → Lies run at (held_list h xs) → P s₀ xs
+      → Tellings h t P s₀ run (at + 1) k₀ (get_or run at 0) i p s k
+      → Telling h t P run (t s₀ xs) k₀ (get_or run at 0) i p s k
   list_told xs l v w = w xs (lies_first l) (lies_next l) v
 
   pub telling_start :
-      {n p o : ℕ} {s : S} {out : List ℕ} (all : List A) → n ≡ length all → Lies run p (held_each h all) → P s all
-      → Telling h t P run (t s all) out o n 0 p s out o
-  telling_start {o = o} {out = out} all c l k =
+      {n p : ℕ} {s : S} {k : Sink} (all : List A) → n ≡ length all → Lies run p (held_each h all) → P s all
+      → Telling h t P run (t s all) k n 0 p s k
+  telling_start {k = k} all c l v =
       record {
         done = [];
-        adds = adds_none out o;
+        adds = adds_none k;
         coming = record { rest = all; lies = l; count = omega (arith, c); same = refl };
-        known = k;
+        known = v;
       }
 
-  module _ {total out₀ out : List ℕ} {o₀ n i p o : ℕ} {s : S} (w : Telling h t P run total out₀ o₀ n i p s out o) where
+  module _ {total : List ℕ} {k₀ u : Sink} {n i p : ℕ} {s : S} (w : Telling h t P run total k₀ n i p s u) where
     -- the things still to come, as what is told of them
     rest : Coming h run n i p (λ xs. xs) w.coming.rest
     rest = record { rest = w.coming.rest; lies = w.coming.lies; count = w.coming.count; same = refl }
@@ -75,18 +76,18 @@ module _ {A S : Type 0} {h : A → List ℕ} {t : S → List A → List ℕ} {P 
     telling_lying k = let y = telling_now k in record { thing = y.head; lies = y.lies }
 
     -- it is told by a piece
-    pub record Piece (x : A) (xs : List A) (q : ℕ) (s' : S) (after : List ℕ) (o' : ℕ) : Type 0 where
+    pub record Piece (x : A) (xs : List A) (q : ℕ) (s' : S) (u' : Sink) : Type 0 where
       pub far : q ≡ p + length (h x)
       pub piece : List ℕ
-      pub adds : Adds piece out o o' after
+      pub adds : Adds piece u u'
       pub tells : t s (x ∷ xs) ≡ piece ++ t s' xs
       pub known : P s' xs
 
     pub telling_next :
-        i < n → (q : ℕ) (s' : S) (after : List ℕ) (o' : ℕ)
-        → ((x : A) (xs : List A) → Lies run p (h x) → P s (x ∷ xs) → Piece x xs q s' after o')
-        → Telling h t P run total out₀ o₀ n (i + 1) q s' after o'
-    telling_next k q s' after o' f =
+        i < n → (q : ℕ) (s' : S) (u' : Sink)
+        → ((x : A) (xs : List A) → Lies run p (h x) → P s (x ∷ xs) → Piece x xs q s' u')
+        → Telling h t P run total k₀ n (i + 1) q s' u'
+    telling_next k q s' u' f =
         let y = coming_now rest k in
         let e = f y.head y.tail y.lies (subst (P s) (sym y.same) w.known) in
         record {
@@ -103,7 +104,7 @@ module _ {A S : Type 0} {h : A → List ℕ} {t : S → List A → List ℕ} {P 
           known = e.known;
         }
 
-    pub telling_end : n ≤ i → t s [] ≡ [] → Adds total out₀ o₀ o out
+    pub telling_end : n ≤ i → t s [] ≡ [] → Adds total k₀ u
     telling_end k e =
         adds_as (sym (append-nil w.done) ∙ ap (λ (l : List ℕ). w.done ++ l) (sym e) ∙ coming_end w.coming k)
         w.adds

@@ -11,7 +11,7 @@ use native.Mathlib.Omega.{arith}
 use Rattle.text.specs.Json.{Json, string, Members, no_members, named}
 use Rattle.chars.specs.Decoding.{read_of, sequence_of, units_behind, meaning, text_of, equal, same_text}
 use Rattle.text.specs.Machine.{verdict}
-use Rattle.text.specs.declared.verdict.Verdict.TheVariants.{Whole}
+use Rattle.std.specs.Prelude.{Ok}
 use Rattle.text.proofs.Laws.Contents.{contents}
 use Rattle.text.proofs.Laws.Printing.{printed_whole, printed_contents}
 use Rattle.syntax.specs.Policy.{Policy}
@@ -62,7 +62,7 @@ tree_policy p v =
 -- ---- as bytes
 
 module _ (p : Policy) (v : Valid p) where
-  pub written_whole : verdict (written_policy p) ≡ Whole
+  pub written_whole : verdict (written_policy p) ≡ Ok tt
   unfolding written_policy
   written_whole = printed_whole (tree_sound p v) (omega (arith, tree_depth p))
 

@@ -12,7 +12,7 @@ use Rattle.chars.specs.Decoding.{text_of, same_text}
 use Rattle.text.specs.Printing.{Sound, sound_null, sound_bool, sound_number, sound_string, sound_list, sound_object}
 use Rattle.text.specs.Printing.{SoundMembers, sound_no_members, sound_named}
 use Rattle.text.specs.Machine.{verdict}
-use Rattle.text.specs.declared.verdict.Verdict.TheVariants.{Whole}
+use Rattle.std.specs.Prelude.{Ok}
 use Rattle.text.proofs.Laws.Contents.{contents, contents_says}
 use Rattle.text.proofs.Laws.Printing.{says_sound}
 use Rattle.syntax.specs.Policy.{Statement, Policy}
@@ -127,7 +127,7 @@ policy_valid t (sound_list ts) p e = wrong_read e
 policy_valid t (sound_object {ms} s) p e =
     policy_in_lem s p (pick_inv (known (version_word ∷ statement_word ∷ []) ms) e)
 
-module _ (s : List ℕ) (p : Policy) (w : verdict s ≡ Whole) (e : policy_of (contents s) ≡ read p) where
+module _ (s : List ℕ) (p : Policy) (w : verdict s ≡ Ok tt) (e : policy_of (contents s) ≡ read p) where
   pub read_valid : Valid p
   read_valid = policy_valid (contents s) (says_sound (contents_says s w)) p e
 

@@ -1,46 +1,34 @@
--- By the number of the entry's kind, and whether the text is legal.
+-- By the entry's wildcards, and whether the text is legal.
 use mathlib.Core.Path.{sym, ◌∙◌}
-use native.Mathlib.Omega.{arith}
-use Rattle.candidates.proofs.Laws.Counting.{final_some}
+use Rattle.std.proofs.Common.{rules}
+use Rattle.candidates.proofs.Laws.Counting.{star_part}
 use Rattle.candidates.proofs.Laws.ChargingLeast.{least_none, least_legal, least_other, least_final}
 use Rattle.candidates.proofs.charging.put_least.Goals as goal
-
-pub put_mark-requires : goal.put_mark-requires
-put_mark-requires c = c.requires.0
-
-pub returns-then-w-eq0 : goal.returns-then-w-eq0
-returns-then-w-eq0 c =
-    λ p e. least_none p _ _ (sym c.wild-w.ensures ∙ c.if-w-eq0.true) c.put_mark.ensures
-
-pub put_text-requires : goal.put_text-requires
-put_text-requires c = c.requires
-
-pub returns-then-legal_text : goal.returns-then-legal_text
-returns-then-legal_text c =
-    λ p e. least_legal p _ _ (λ z. c.if-w-eq0.false (c.wild-w.ensures ∙ z))
-    (sym (c.legal_text.ensures p e) ∙ c.if-legal_text.true) c.put_text.ensures
-
-pub put_mark-requires-then-w-ne1 : goal.put_mark-requires-then-w-ne1
-put_mark-requires-then-w-ne1 c = c.requires.0
-
-pub returns-then-w-ne1 : goal.returns-then-w-ne1
-returns-then-w-ne1 c =
-    λ p e. least_other p _ _ (λ z. c.if-w-eq0.false (c.wild-w.ensures ∙ z))
-    (sym (c.legal_text.ensures p e) ∙ c.if-legal_text.false)
-    (λ z. c.if-w-ne1.true (c.wild-w.ensures ∙ z)) c.put_mark-then-w-ne1.ensures
-
-pub overflow_sub-last : goal.overflow_sub-last
-overflow_sub-last c = omega (arith, final_some _ (sym c.wild-w.ensures ∙ c.if-w-ne1.false))
+use Rattle.candidates.proofs.charging.put_least.Goals.{in-Without-1, in_default+else-legal_text+in-Without-1}
 
 pub slice_bounds-put_longest-end : goal.slice_bounds-put_longest-end
-slice_bounds-put_longest-end c =
-    omega (arith, final_some _ (sym c.wild-w.ensures ∙ c.if-w-ne1.false))
+slice_bounds-put_longest-end c = star_part _ (sym c.in-FinalStar.ensures)
 
-pub put_longest-requires : goal.put_longest-requires
-put_longest-requires c = c.requires
+pub returns-in-Without : goal.returns-in-Without
+returns-in-Without c =
+    elim c.in-Without-1.branch [
+      | in-Without-1 w ↦
+          least_none _ _ _ (sym c.of.ensures ∙ (search rules)) c.put_mark-in-Without.ensures
+      | in_default+else-legal_text+in-Without-1 w ↦
+          least_none _ _ _ (sym c.of.ensures ∙ (search rules)) c.put_mark-in-Without.ensures
+    ]
 
-pub returns : goal.returns
-returns c =
-    λ p e. least_final p _ _ (λ z. c.if-w-eq0.false (c.wild-w.ensures ∙ z))
-    (sym (c.legal_text.ensures p e) ∙ c.if-legal_text.false)
-    (sym c.wild-w.ensures ∙ c.if-w-ne1.false) (c.put_longest.ensures p e)
+pub returns-in_default : goal.returns-in_default
+returns-in_default c =
+    least_legal _ _ _ (λ z. c.in_default.not-Without (c.of.ensures ∙ z))
+    (sym c.legal_text.ensures ∙ c.if-legal_text.true) c.put_text.ensures
+
+pub returns-in-FinalStar : goal.returns-in-FinalStar
+returns-in-FinalStar c =
+    least_final _ _ _ (λ z. c.in_default.not-Without (c.of.ensures ∙ z))
+    (sym c.legal_text.ensures ∙ c.if-legal_text.false) (sym c.in-FinalStar.ensures) c.put_longest.ensures
+
+pub returns-in-Others : goal.returns-in-Others
+returns-in-Others c =
+    least_other _ _ _ (λ z. c.in_default.not-Without (c.of.ensures ∙ z))
+    (sym c.legal_text.ensures ∙ c.if-legal_text.false) (λ z. cc) c.put_mark.ensures

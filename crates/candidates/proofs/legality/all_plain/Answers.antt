@@ -1,21 +1,15 @@
--- All characters passed are plain.
-use mathlib.Core.Path.{refl, sym, ◌∙◌}
-use Rattle.syntax.proofs.Laws.Forms.{all_next, all_stop, all_end}
+-- As the library tests each.
+use mathlib.Core.Path.{◌∙◌}
+use borrow.Author.Tests.{tests}
+use Rattle.std.proofs.Common.{rules}
+use Rattle.std.proofs.lemmas.Iterator.{YieldsList-from_slice}
+use Rattle.std.proofs.lemmas.Iterator.Search.{all_from_yields_List}
 use Rattle.candidates.specs.Entries.{is_plain}
+use Rattle.candidates.specs.Places.{place_is}
+use Rattle.candidates.proofs.Laws.Chains.{all_by}
 use Rattle.candidates.proofs.legality.all_plain.Goals as goal
 
-pub loop-i-init : goal.loop-i-init
-loop-i-init c = λ p e. refl
-
-pub returns-then-not-is_plain : goal.returns-then-not-is_plain
-returns-then-not-is_plain c =
-    λ p e. sym (all_stop (is_plain p) _ _ c.loop-i-test.true
-    (sym (c.is_plain.ensures p e) ∙ c.if-not-is_plain.true)) ∙ c.loop-i.invariant p e
-
-pub loop-i-preserved : goal.loop-i-preserved
-loop-i-preserved c =
-    λ p e. sym (all_next (is_plain p) _ _ c.loop-i-test.true
-    (sym (c.is_plain.ensures p e) ∙ c.if-not-is_plain.false)) ∙ c.loop-i.invariant p e
-
 pub returns : goal.returns
-returns c = λ p e. sym (all_end (is_plain p) _ _ c.loop-i-test.false) ∙ c.loop-i.invariant p e
+returns c =
+    all_from_yields_List (is_plain (place_is c.args.place)) _ _ _ c.all.ensures.ran
+    (YieldsList-from_slice c.args.cs.now (cc)) (λ x b q k. search (rules, tests)) ∙ all_by _ _

@@ -1,18 +1,18 @@
--- Test by test.
-use mathlib.Core.Path.{sym, ◌∙◌}
-use Rattle.candidates.proofs.Laws.Legality.{plain_elsewhere, plain_star, plain_any, plain_action}
+-- By the place, and by the character where it is Action.
+use native.Mathlib.Omega.{arith}
+use Rattle.std.proofs.lemmas.Grind.{common_steps}
+use Rattle.chars.specs.Base.{one_of}
 use Rattle.candidates.proofs.legality.is_plain.Goals as goal
+use Rattle.candidates.proofs.legality.is_plain.Goals.{in_default-via-in-Action+in_default, in_default-via-in_default}
 
-pub returns-then-place-ne0 : goal.returns-then-place-ne0
-returns-then-place-ne0 c = λ p e. c.is_scalar.ensures ∙ plain_elsewhere p _ (λ z. c.if-place-ne0.true (e ∙ z))
+pub returns-in-Action-eq42 : goal.returns-in-Action-eq42
+unfolding one_of
+returns-in-Action-eq42 c = grind (arith, common_steps)
 
-pub returns-then-c-eq42 : goal.returns-then-c-eq42
-returns-then-c-eq42 c = λ p e. plain_star p _ (sym e ∙ c.if-place-ne0.false) c.if-c-eq42.true
-
-pub returns-then-c-eq63 : goal.returns-then-c-eq63
-returns-then-c-eq63 c = λ p e. plain_any p _ (sym e ∙ c.if-place-ne0.false) c.if-c-eq42.false c.if-c-eq63.true
-
-pub returns : goal.returns
-returns c =
-    λ p e. c.is_scalar-2.ensures ∙ plain_action p _ (sym e ∙ c.if-place-ne0.false) c.if-c-eq42.false
-    c.if-c-eq63.false
+pub returns-in_default : goal.returns-in_default
+unfolding one_of
+returns-in_default c =
+    elim c.in_default.branch [
+      | in_default-via-in-Action+in_default w ↦ grind (arith, common_steps)
+      | in_default-via-in_default w ↦ grind (arith, common_steps)
+    ]

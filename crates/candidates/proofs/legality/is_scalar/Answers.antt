@@ -1,12 +1,21 @@
--- Test by test.
-use Rattle.candidates.proofs.Laws.Legality.{scalar_low, scalar_gap, scalar_high}
+-- In one range or the other.
+use native.Mathlib.Omega.{arith}
+use Rattle.std.proofs.lemmas.Grind.{common_steps}
+use Rattle.candidates.specs.Entries.{is_scalar}
 use Rattle.candidates.proofs.legality.is_scalar.Goals as goal
 
-pub returns-then-c-le55295 : goal.returns-then-c-le55295
-returns-then-c-le55295 c = scalar_low _ c.if-c-le55295.true
+pub returns-in_default : goal.returns-in_default
+unfolding is_scalar
+returns-in_default c = grind (arith, common_steps)
 
-pub returns-then-c-lt57344 : goal.returns-then-c-lt57344
-returns-then-c-lt57344 c = scalar_gap _ c.if-c-le55295.false c.if-c-lt57344.true
+pub returns-in_default-2 : goal.returns-in_default-2
+unfolding is_scalar
+returns-in_default-2 c = grind (arith, common_steps)
 
-pub returns : goal.returns
-returns c = scalar_high _ c.if-c-le55295.false c.if-c-lt57344.false
+pub returns-in-0-to-55295 : goal.returns-in-0-to-55295
+unfolding is_scalar
+returns-in-0-to-55295 c = grind (arith, common_steps)
+
+pub returns-in-0-to-55295-2 : goal.returns-in-0-to-55295-2
+unfolding is_scalar
+returns-in-0-to-55295-2 c = grind (arith, common_steps)

@@ -1,40 +1,24 @@
 -- Each test refuses by itself; the form is tested on the text with its star.
 use mathlib.Core.Path.{sym, ap, ◌∙◌}
-use native.Mathlib.Omega.{arith}
-use borrow.Author.Tests.{not-true, not-false}
-use Rattle.candidates.specs.Places.{form_of}
+use Rattle.candidates.specs.Places.{form_of, place_is}
 use Rattle.candidates.proofs.Laws.Forming.{begun_short, begun_not, begun_not_plain, begun_long, begun_formed}
 use Rattle.candidates.proofs.Laws.Forming.{starts_part}
-use mathlib.Core.Bool.{not}
 use Rattle.candidates.proofs.legality.legal_beginning.Goals as goal
+use Rattle.candidates.proofs.legality.legal_beginning.Goals.{then-q-b-via-then-q-b, then-q-b-via-else-q-b+then-q-ge-ENTRY, then-q-b-via-else-q-b+else-q-ge-ENTRY+then-not-begins, then-q-b-via-else-q-b+else-q-ge-ENTRY+else-not-begins+then-not-all_plain}
 
 pub returns-then-q-b : goal.returns-then-q-b
-returns-then-q-b c = λ p e. begun_short p _ _ c.if-q-b.true
-
-pub returns-then-not-begins : goal.returns-then-not-begins
-returns-then-not-begins c =
-    λ p e. begun_not p _ _ (sym c.begins.ensures ∙ c.if-not-begins.true)
-
-pub returns-then-not-all_plain : goal.returns-then-not-all_plain
-returns-then-not-all_plain c =
-    λ p e. begun_not_plain p _ _ (sym (c.all_plain.ensures p e) ∙ not-true c.all_plain.result
-    (ap not c.if-not-all_plain.true))
-
-pub returns-then-q-ge-ENTRY : goal.returns-then-q-ge-ENTRY
-returns-then-q-ge-ENTRY c = λ p e. begun_long p _ _ c.if-q-ge-ENTRY.true
-
-pub put_starred-requires : goal.put_starred-requires
-put_starred-requires c = omega (arith, c.if-q-ge-ENTRY.false)
-
-pub overflow_add-n : goal.overflow_add-n
-overflow_add-n c = omega (arith, c.if-q-ge-ENTRY.false)
-
-pub slice_bounds-has_form-end : goal.slice_bounds-has_form-end
-slice_bounds-has_form-end c = omega (arith, c.if-q-ge-ENTRY.false)
+returns-then-q-b c =
+    elim c.then-q-b.branch [
+      | then-q-b-via-then-q-b w ↦ begun_short _ _ _ w.if-q-b.true
+      | then-q-b-via-else-q-b+then-q-ge-ENTRY w ↦ begun_long _ _ _ w.if-q-ge-ENTRY.true
+      | then-q-b-via-else-q-b+else-q-ge-ENTRY+then-not-begins w ↦
+          begun_not _ _ _ (sym w.begins.ensures ∙ w.if-not-begins.true)
+      | then-q-b-via-else-q-b+else-q-ge-ENTRY+else-not-begins+then-not-all_plain w ↦
+          begun_not_plain _ _ _ (sym w.all_plain.ensures ∙ w.if-not-all_plain.true)
+    ]
 
 pub returns : goal.returns
 returns c =
-    λ p e. c.has_form.ensures p e ∙ ap (form_of p) (starts_part (c.put_starred.ensures p e)) ∙
-    begun_formed p _ _ (sym c.begins.ensures ∙ c.if-not-begins.false)
-    c.if-q-b.false (sym (c.all_plain.ensures p e) ∙ not-false c.all_plain.result
-    (ap not c.if-not-all_plain.false)) c.if-q-ge-ENTRY.false
+    c.has_form.ensures ∙ ap (form_of (place_is c.args.place)) (starts_part c.put_starred.ensures)
+    ∙ begun_formed _ _ _ (sym c.begins.ensures ∙ c.if-not-begins.false) c.if-q-b.false
+    (sym c.all_plain.ensures ∙ c.if-not-all_plain.false) c.if-q-ge-ENTRY.false

@@ -7,9 +7,9 @@ use native.Mathlib.Omega.{arith}
 use lib.Dec.{leb}
 use lib.ListN.{drop}
 use lib.Seq.{get_or-drop}
-use borrow.Author.Tests.{leb-true, ne_eqb}
+use borrow.Author.Tests.{leb-true}
 use Rattle.chars.specs.Base.{pick, In, within}
-use Rattle.chars.specs.Decoding.{hex_of, code_at, letter_of}
+use Rattle.chars.specs.Decoding.{hex_of, code_at}
 use Rattle.chars.proofs.Laws.Tests.{inside}
 use Rattle.chars.proofs.Laws.Tests as T
 
@@ -54,10 +54,6 @@ module _ {b : ℕ} where
         within_inside p,
       )
 
-  pub hex_none : Outside 48 57 b → Outside 65 70 b → Outside 97 102 b → hex_of b ≡ 0
-  unfolding hex_of
-  hex_none p q r = rw (within_outside p, within_outside q, within_outside r)
-
 abbrev Small : ℕ → Type 0
 Small n = n < 16
 
@@ -76,8 +72,3 @@ hex_small b =
 pub code_drop : (w : List ℕ) → code_at w 8 ≡ code_at (drop 6 w) 2
 unfolding code_at
 code_drop w = rw (get_or-drop 6 w 2 0, get_or-drop 6 w 3 0, get_or-drop 6 w 4 0, get_or-drop 6 w 5 0)
-
-pub letter_itself : (x : ℕ) → (x ≡ 98 → ⊥) → (x ≡ 102 → ⊥) → (x ≡ 110 → ⊥) → (x ≡ 114 → ⊥) → (x ≡ 116 → ⊥)
-    → letter_of x ≡ x
-unfolding letter_of
-letter_itself x b f n r t = rw (ne_eqb x 98 b, ne_eqb x 102 f, ne_eqb x 110 n, ne_eqb x 114 r, ne_eqb x 116 t)

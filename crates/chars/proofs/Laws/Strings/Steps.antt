@@ -3,6 +3,7 @@ use mathlib.Core.Path.{◌≡◌, sym, ap, ◌∙◌}
 use mathlib.Core.List.{List, [], ◌∷◌}
 use Prim.Native.Nat.{ℕ, suc, ◌+◌, ◌-◌, ◌≤◌, ◌<◌}
 use native.Mathlib.Omega.{arith}
+use native.Mathlib.Decide.{dec_lt}
 use lib.ListN.{length, get_or, drop, length-drop, drop_of_length-le}
 use lib.Seq.{get_or-drop, drop-drop, drop-length}
 use Rattle.chars.specs.Strings.{plain, coded}
@@ -49,16 +50,14 @@ module _ (w : List ℕ) (h : ℕ) {b : ℕ} (sixth : b ≡ get_or w 6 0) where
 
 -- ---- the next place
 
-pub past_end : (w : List ℕ) (i n : ℕ) → i < length w → length w - i ≤ n → Past w i n (length w)
-past_end w i n h k =
-    let short : length (drop i w) ≤ suc n = omega (arith, length-drop i w) in
-    record { on = h; inside = omega arith; rest = drop-length w ∙ sym (drop_of_length-le (drop i w) short) }
-
-pub past_more : (w : List ℕ) (i n : ℕ) → n < length w - i → Past w i n (i + 1 + n)
-past_more w i n h =
-    let e : i + 1 + n ≡ i + suc n = omega arith in
-    record {
-      on = omega arith;
-      inside = omega arith;
-      rest = ap (λ (k : ℕ). drop k w) e ∙ sym (drop-drop (suc n) i w);
-    }
+pub past_least : (w : List ℕ) (i n p : ℕ) → i < length w → i < p → p ≤ length w → p ≤ i + 1 + n
+    → (p < i + 1 + n → p ≡ length w) → Past w i n p
+past_least w i n p h l k g e = record { on = l; inside = k; rest = by (dec_lt p (i + 1 + n)) }
+  where
+    by : Dec (p < i + 1 + n) → drop p w ≡ drop (suc n) (drop i w)
+    by (yes s) =
+        let short : length (drop i w) ≤ suc n = omega (arith, length-drop i w, e s) in
+        ap (λ (k : ℕ). drop k w) (e s) ∙ drop-length w ∙ sym (drop_of_length-le (drop i w) short)
+    by (no s) =
+        let all : p ≡ i + suc n = omega arith in
+        ap (λ (k : ℕ). drop k w) all ∙ sym (drop-drop (suc n) i w)

@@ -7,12 +7,12 @@ use native.Mathlib.Numerals.{add-one}
 use native.Mathlib.Omega.{arith}
 use lib.Dec.{leb}
 use lib.ListN.{length, get_or, take, drop, length-append, take-append-drop, drop_of_length-le}
-use lib.Seq.{take_all, take-suc, drop-cons}
+use lib.Seq.{take_all, take-suc, drop-cons, length-sets}
 use borrow.Author.Tests.{le-leb, lt-leb}
-use Rattle.chars.specs.Putting.{put_at}
-use Rattle.chars.specs.Written.{written, written_text, write_of}
-use Rattle.chars.specs.declared.written.Written.TheVariants.{Count, Short}
-use Rattle.chars.proofs.Laws.Putting.{put_fit, put_none, put_append, put_length}
+use Rattle.chars.specs.Putting.{put_at, Puts}
+use Rattle.chars.specs.Written.{written, written_text}
+use Rattle.std.specs.Prelude.{Some}
+use Rattle.chars.proofs.Laws.Putting.{puts_put, puts_as, puts_append}
 
 pub text_append : (xs ys : List ℕ) → written_text (xs ++ ys) ≡ written_text xs ++ written_text ys
 unfolding written_text
@@ -31,9 +31,6 @@ text_cons cs i h = ap written_text (drop-cons cs i 0 h ∙ ap (λ (n : ℕ). get
 -- the room that is left is what the characters passed did not take
 pub record Fitting (cs : List ℕ) (room left i : ℕ) : Type 0 where
   pub sum : left + length (written_text cs) ≡ room + length (written_text (drop i cs))
-
-pub fitting_start : (cs : List ℕ) (room : ℕ) → Fitting cs room room 0
-fitting_start cs room = record { sum = refl }
 
 module _ {cs : List ℕ} {room left i : ℕ} (p : Fitting cs room left i) where
   module _ {w : ℕ} (h : i < length cs) (e : w ≡ length (written (get_or cs i 0))) where
@@ -62,12 +59,12 @@ module _ {cs : List ℕ} {room left i : ℕ} (p : Fitting cs room left i) where
 
 -- the characters passed are put as one
 pub record Sofar (cs before after : List ℕ) (at i : ℕ) : Type 0 where
-  pub put : (at, after) ≡ put_at before 0 (written_text (take i cs))
+  pub put : Puts before 0 (written_text (take i cs)) at after
   pub fit : length (written_text cs) ≤ length before
 
 pub sofar_start : (cs before : List ℕ) → length (written_text cs) ≤ length before → Sofar cs before before 0 0
 unfolding written_text
-sofar_start cs before h = record { put = sym (put_fit before 0 [] (omega arith)); fit = h }
+sofar_start cs before h = record { put = record { place = refl; run = refl }; fit = h }
 
 text_snoc : (cs : List ℕ) (i : ℕ) → i < length cs
     → written_text (take (i + 1) cs) ≡ written_text (take i cs) ++ written (get_or cs i 0)
@@ -89,35 +86,25 @@ text_prefix cs n =
 
 module _ {cs before after : List ℕ} {at i : ℕ} (p : Sofar cs before after at i) where
   pub sofar_length : length after ≡ length before
-  sofar_length = ap (λ (r : ℕ × List ℕ). length r.1) p.put ∙ put_length before 0 (written_text (take i cs))
+  sofar_length = ap length p.put.run ∙ length-sets before 0 (written_text (take i cs))
 
-  pub sofar_next : {next : ℕ} {last : List ℕ} → i < length cs → (next, last) ≡ put_at after at (written (get_or cs i 0))
-      → Sofar cs before last next (i + 1)
-  sofar_next {next} {last} h e =
-      let bs = written_text (take i cs) in
-      record {
-        put = e ∙ ap (λ (r : ℕ × List ℕ). put_at r.1 r.0 (written (get_or cs i 0))) p.put
-            ∙ put_append before 0 bs (written (get_or cs i 0))
-            (omega (arith, ap length (text_snoc cs i h), text_prefix cs (i + 1), p.fit))
-            ∙ ap (put_at before 0) (sym (text_snoc cs i h));
-        fit = p.fit;
-      }
+  module _ (h : i < length cs) where
+    -- the next character fits
+    pub sofar_room : at + length (written (get_or cs i 0)) ≤ length after
+    sofar_room =
+        omega (
+          arith,
+          sofar_length,
+          p.put.place,
+          p.fit,
+          ap length (text_snoc cs i h),
+          length-append (written_text (take i cs)) (written (get_or cs i 0)),
+          text_prefix cs (i + 1),
+        )
 
-  pub sofar_end : length cs ≤ i → (Count at, after) ≡ write_of (written_text cs) before
-  unfolding write_of
-  sofar_end h =
-      let bs = written_text cs in
-      let all : (at, after) ≡ put_at before 0 bs =
-      p.put ∙ ap (λ (l : List ℕ). put_at before 0 (written_text l)) (take_all i cs h) in
-      let fits : 0 + length bs ≤ length before = omega (arith, p.fit) in
-      let count : at ≡ length bs = omega (arith, ap (λ (r : ℕ × List ℕ). r.0) (all ∙ put_fit before 0 bs fits)) in
-      let run : after ≡ (put_at before 0 bs).1 = ap (λ (r : ℕ × List ℕ). r.1) all in
-      rw (le-leb (length bs) (length before) p.fit, count, run)
+    pub sofar_next : {next : ℕ} {last : List ℕ} → Puts after at (written (get_or cs i 0)) next last
+        → Sofar cs before last next (i + 1)
+    sofar_next q = record { put = puts_as (text_snoc cs i h) (puts_append p.put q); fit = p.fit }
 
-pub write_none : (cs before : List ℕ) → length before < length (written_text cs)
-    → (Short, before) ≡ write_of (written_text cs) before
-unfolding write_of
-write_none cs before h =
-    let bs = written_text cs in
-    let over : length before < 0 + length bs = omega arith in
-    rw (lt-leb (length bs) (length before) h, put_none before 0 bs over)
+  pub sofar_end : length cs ≤ i → (Some at, after) ≡ put_at before 0 (written_text cs)
+  sofar_end h = puts_put (omega (arith, p.fit)) (puts_as (ap written_text (sym (take_all i cs h))) p.put)

@@ -1,26 +1,23 @@
--- No LF stood at any place passed.
-use mathlib.Core.Path.{sym, ◌∙◌}
-use native.Mathlib.Omega.{arith}
-use Rattle.chars.proofs.Laws.Lines.Found.{unbroken_lf, unbroken_more, unbroken_end}
+-- The first LF of what follows the eights passed, as the library looks for it.
+use Rattle.std.proofs.Common.{◌≡◌, ◌-◌, length, take, drop, ◌∙◌, rules, tests}
+use Rattle.std.specs.List.{position}
+use Rattle.std.proofs.lemmas.Iterator.Search.{position_from_yields_List}
+use Rattle.std.proofs.lemmas.Iterator.{YieldsList-from_slice}
+use Rattle.chars.proofs.Laws.Lines.Found.{is_lf, behind_lf, behind_none}
 use Rattle.chars.proofs.lines.line_end.Goals as goal
 
-pub past_eights-i-requires : goal.past_eights-i-requires
-past_eights-i-requires c =
-    c.requires
+pub returns-in-Some : goal.returns-in-Some
+returns-in-Some c =
+    let i = c.past_eights-from.result in
+    let found : c.position.result ≡ position is_lf (take (length c.args.s.now - i) (drop i c.args.s.now)) =
+    position_from_yields_List is_lf _ _ c.position.result c.position.ensures.ran
+    (YieldsList-from_slice _ c.iter.ensures.rest) (λ x b q k. search (rules, tests)) in
+    behind_lf c.args.s.now i c.past_eights-from.ensures.0 found c.in-Some.is ∙ c.past_eights-from.ensures.1
 
-pub loop-i-init : goal.loop-i-init
-loop-i-init c = c.past_eights-i.ensures
-
-pub returns-then-s-i-eq10 : goal.returns-then-s-i-eq10
-returns-then-s-i-eq10 c =
-    let z = unbroken_lf c.args.s.now c.loop-i.i c.loop-i-test.true c.if-s-i-eq10.true in
-    omega (arith, c.loop-i.invariant.1)
-
-pub loop-i-preserved : goal.loop-i-preserved
-loop-i-preserved c =
-    (omega arith, sym (unbroken_more c.args.s.now c.loop-i.i c.loop-i-test.true c.if-s-i-eq10.false) ∙ c.loop-i.invariant.1)
-
-pub returns : goal.returns
-returns c =
-    let z = unbroken_end c.args.s.now c.loop-i.i c.loop-i-test.false in
-    omega (arith, c.loop-i.invariant.1)
+pub returns-in-None : goal.returns-in-None
+returns-in-None c =
+    let i = c.past_eights-from.result in
+    let found : c.position.result ≡ position is_lf (take (length c.args.s.now - i) (drop i c.args.s.now)) =
+    position_from_yields_List is_lf _ _ c.position.result c.position.ensures.ran
+    (YieldsList-from_slice _ c.iter.ensures.rest) (λ x b q k. search (rules, tests)) in
+    behind_none c.args.s.now i c.past_eights-from.ensures.0 found c.in-None.is ∙ c.past_eights-from.ensures.1

@@ -1,76 +1,32 @@
--- Each turn lays one character more over the run, and goes on behind its bytes.
+-- Each turn lays the plain bytes and one character more over the run, and goes on behind them.
+use mathlib.Core.Path.{◌≡◌}
 use native.Mathlib.Omega.{arith}
-use Rattle.chars.proofs.Laws.Strings.Runs.{rest_some, sofar_first, sofar_length, sofar_ascii, sofar_char}
-use Rattle.chars.proofs.Laws.Strings.Runs.{sofar_lone, sofar_count, sofar_short, sofar_at}
+use borrow.Author.Rules.{rules}
+use Rattle.std.specs.Prelude.{Err}
+use Rattle.chars.specs.declared.strings.DecodeError.TheVariants.{Lone}
+use Rattle.chars.proofs.Laws.Strings.Runs.{reads_char, reads_none, sofar_start, sofar_on, sofar_char}
+use Rattle.chars.proofs.Laws.Strings.Runs.{sofar_lone, sofar_count, sofar_short}
 use Rattle.chars.proofs.strings.decode.Goals as goal
 
-pub put_eights-i-requires : goal.put_eights-i-requires
-put_eights-i-requires c = omega arith
+pub loop-end-init : goal.loop-end-init
+loop-end-init c = (omega arith, sofar_start _ _)
 
-pub loop-i-init : goal.loop-i-init
-loop-i-init c = λ before p. p
+pub returns-in_err-c : goal.returns-in_err-c
+returns-in_err-c c =
+    let none = c.in_err-c.ensures in
+    let was : c.from_residual.result ≡ Err Lone = search rules in
+    rw was (sofar_lone (sofar_on c.loop-end.invariant.1 c.put_plain-end.ensures) (reads_none c.char_at.ensures none.ok_part))
 
-pub overflow_add-n : goal.overflow_add-n
-overflow_add-n c = omega (arith, (c.loop-i.invariant _ (sofar_first c.put_eights-i.ensures)).low, c.loop-i-test.true)
-
-pub loop-i-smaller-then-b-ne92 : goal.loop-i-smaller-then-b-ne92
-loop-i-smaller-then-b-ne92 c = omega (arith, c.loop-i-test.true)
-
-pub loop-i-preserved-then-b-ne92 : goal.loop-i-preserved-then-b-ne92
-loop-i-preserved-then-b-ne92 c = λ before p. sofar_ascii (c.loop-i.invariant before p) c.loop-i-test.true c.if-b-lt128.true c.if-b-ne92.true c.wide.ensures c.put.ensures
-
-pub first-x-requires : goal.first-x-requires
-first-x-requires c = rest_some c.args.s.now _ c.loop-i-test.true
-
-pub past-p-requires : goal.past-p-requires
-past-p-requires c = c.loop-i-test.true
-
-pub overflow_add-n-in-Char : goal.overflow_add-n-in-Char
-overflow_add-n-in-Char c = omega (arith, (c.loop-i.invariant _ (sofar_first c.put_eights-i.ensures)).low, c.loop-i-test.true)
-
-pub put_eights-i-requires-in-Char : goal.put_eights-i-requires-in-Char
-put_eights-i-requires-in-Char c = c.past-p.ensures.inside
-
-pub overflow_add-n-in-Char-2 : goal.overflow_add-n-in-Char-2
-overflow_add-n-in-Char-2 c = omega (arith, (c.loop-i.invariant _ (sofar_first c.put_eights-i.ensures)).low, c.loop-i-test.true)
-
-pub overflow_sub-n : goal.overflow_sub-n
-overflow_sub-n c = omega (arith, c.put_eights-i-in-Char.ensures.on)
-
-pub overflow_add-n-in-Char-3 : goal.overflow_add-n-in-Char-3
-overflow_add-n-in-Char-3 c =
-    omega (
-      arith,
-      (c.loop-i.invariant _ (sofar_first c.put_eights-i.ensures)).low,
-      c.loop-i-test.true,
-      c.past-p.ensures.on,
-      c.put_eights-i-in-Char.ensures.on,
-      c.put_eights-i-in-Char.ensures.inside,
-    )
-
-pub loop-i-smaller : goal.loop-i-smaller
-loop-i-smaller c = omega (arith, c.past-p.ensures.on, c.put_eights-i-in-Char.ensures.on, c.loop-i-test.true)
-
-pub loop-i-preserved : goal.loop-i-preserved
-loop-i-preserved c =
-    λ before p.
-    let next = sofar_char (c.loop-i.invariant before p) c.first-x.ensures c.in-Char.is c.past-p.ensures c.put-in-Char.ensures in
-    sofar_at (c.put_eights-i-in-Char.ensures.goes before next) (omega arith)
-
-pub shape_of-out-in-Lone : goal.shape_of-out-in-Lone
-shape_of-out-in-Lone c = sofar_length (c.loop-i.invariant _ (sofar_first c.put_eights-i.ensures))
-
-pub returns-in-Lone : goal.returns-in-Lone
-returns-in-Lone c = sofar_lone (c.loop-i.invariant _ (sofar_first c.put_eights-i.ensures)) c.first-x.ensures c.in-Lone.is
-
-pub shape_of-out-then-n-out : goal.shape_of-out-then-n-out
-shape_of-out-then-n-out c = sofar_length (c.loop-i.invariant _ (sofar_first c.put_eights-i.ensures))
+pub loop-end-preserved : goal.loop-end-preserved
+loop-end-preserved c =
+    let some = c.in_ok-c.ensures in
+    let t = reads_char c.char_at.ensures some.ok_part in
+    (t.on.1, sofar_char (sofar_on c.loop-end.invariant.1 c.put_plain-end.ensures) t c.put.ensures)
 
 pub returns-then-n-out : goal.returns-then-n-out
-returns-then-n-out c = sofar_count (c.loop-i.invariant _ (sofar_first c.put_eights-i.ensures)) c.loop-i-test.false c.if-n-out.true
-
-pub shape_of-out-else-n-out : goal.shape_of-out-else-n-out
-shape_of-out-else-n-out c = sofar_length (c.loop-i.invariant _ (sofar_first c.put_eights-i.ensures))
+returns-then-n-out c =
+    sofar_count (sofar_on c.loop-end.invariant.1 c.put_plain-end.ensures) (omega arith) c.if-n-out.true
 
 pub returns-else-n-out : goal.returns-else-n-out
-returns-else-n-out c = sofar_short (c.loop-i.invariant _ (sofar_first c.put_eights-i.ensures)) c.loop-i-test.false c.if-n-out.false
+returns-else-n-out c =
+    sofar_short (sofar_on c.loop-end.invariant.1 c.put_plain-end.ensures) (omega arith) c.if-n-out.false

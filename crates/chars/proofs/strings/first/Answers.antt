@@ -1,19 +1,15 @@
 -- An escape, ASCII, or a sequence.
-use mathlib.Core.Path.{◌∙◌, sym}
 use native.Mathlib.Omega.{arith}
+use mathlib.Core.Path.{◌∙◌}
 use Rattle.chars.proofs.Laws.Strings.Reading.{read_letter, read_sequence, sequence_one, text_plain}
 use Rattle.chars.proofs.strings.first.Goals as goal
 
 pub returns-else-b-eq117 : goal.returns-else-b-eq117
 returns-else-b-eq117 c =
-    rw (c.letter.ensures, c.byte_at-b.ensures)
-    (text_plain _ c.requires
-    (read_letter _ (sym c.byte_at-a.ensures ∙ c.in-92.is)
-    (λ e. c.if-b-eq117.false (c.byte_at-b.ensures ∙ e))))
+    rw (c.from.ensures, c.letter.ensures, c.byte_at-b.ensures)
+    (text_plain _ c.requires (read_letter _ c.in-92.is (λ e. c.if-b-eq117.false (c.byte_at-b.ensures ∙ e))))
 
 pub returns-in-0-to-127 : goal.returns-in-0-to-127
 returns-in-0-to-127 c =
-    rw (c.wide.ensures, c.byte_at-a.ensures)
-    (text_plain _ c.requires
-    (read_sequence _ (λ e. c.in-0-to-127.in_default-own.rest.1 (c.byte_at-a.ensures ∙ e))
-    ∙ sequence_one _ _ (omega arith)))
+    rw c.from-in-0-to-127.ensures
+    (text_plain _ c.requires (read_sequence _ (λ e. omega arith) ∙ sequence_one _ _ (omega arith)))

@@ -5,17 +5,13 @@ use Rattle.chars.specs.Written.{written}
 use Rattle.chars.proofs.Laws.Putting.{put_none, puts_put}
 use Rattle.chars.proofs.written.put_char.Goals as goal
 
-pub returns-then-out-at : goal.returns-then-out-at
-returns-then-out-at c = sym (put_none _ _ (written c.args.c) (omega arith))
+pub returns-in_err-room : goal.returns-in_err-room
+returns-in_err-room c =
+    let before = c.in_err-room.ensures in
+    rw c.from_residual.ensures (sym (put_none _ _ (written c.args.c) (omega (arith, before))))
 
-pub returns-then-out-at-2 : goal.returns-then-out-at-2
-returns-then-out-at-2 c =
-    sym (put_none _ _ (written c.args.c) (omega (arith, c.width.ensures)))
-
-pub put_form-requires : goal.put_form-requires
-put_form-requires c = omega (arith, c.width.ensures)
+pub returns-then-room-width : goal.returns-then-room-width
+returns-then-room-width c = sym (put_none _ _ (written c.args.c) (omega (arith, c.width.ensures)))
 
 pub returns : goal.returns
-returns c =
-    puts_put (omega (arith, c.width.ensures))
-    c.put_form.ensures
+returns c = puts_put (omega (arith, c.width.ensures)) c.put_form.ensures

@@ -1,7 +1,8 @@
 -- The policy is refused at once; else it is read, in a run that is long enough.
 use Rattle.decide.specs.Operations.{policy_refused}
-use Rattle.decide.proofs.Laws.Operations.{early_refused}
+use Rattle.decide.proofs.Laws.Operations.{handed_on}
 use Rattle.decide.proofs.operations.decide.Goals as goal
 
-pub returns-in-Refused : goal.returns-in-Refused
-returns-in-Refused c = policy_refused (early_refused _ c.soon-h.ensures c.in-Refused.is)
+pub returns-in_err-soon : goal.returns-in_err-soon
+returns-in_err-soon c =
+    rw (handed_on _ c.from_residual.ensures.1) (policy_refused c.in_err-soon.ensures)

@@ -7,7 +7,7 @@ use Rattle.held.specs.Held.{held_text, held_statement, held, held_request, any_o
 use Rattle.held.specs.Lying.{Lying}
 use Rattle.decision.specs.Decision.{decide}
 use Rattle.held.proofs.Laws.Coming.{Coming}
-use Rattle.decision.proofs.Laws.DecidingOrder.{told}
+use Rattle.decision.proofs.Laws.DecidingOrder.{told, Kept, number}
 use Rattle.decision.proofs.deciding.decide.Given as goal
 
 abbrev pub invariant-entries : goal.invariant-entries
@@ -21,8 +21,9 @@ decreases-entries l = l.m - l.j
 
 abbrev pub invariant-statements : goal.invariant-statements
 invariant-statements l =
-    (x : Lying held l.policy 0) (q : Lying held_request l.request 0)
-    → Coming held_statement l.policy l.n l.i l.p (told l.allowed (l.i + 1) q.thing) (decide x.thing q.thing)
+    Kept l.allowed
+    × ((x : Lying held l.policy 0) (q : Lying held_request l.request 0)
+    → Coming held_statement l.policy l.n l.i l.p (told (number l.allowed) (l.i + 1) q.thing) (decide x.thing q.thing))
 
 abbrev pub decreases-statements : goal.decreases-statements
 decreases-statements l = l.n - l.i

@@ -14,16 +14,16 @@ pub overflow_add-p : goal.overflow_add-p
 overflow_add-p c =
     omega (arith, row_inside c.requires.0.thing c.requires.0.lies, c.requires.0.lies.bounded)
 
-pub key_place-c-requires : goal.key_place-c-requires
-key_place-c-requires c =
+pub key_place-requires : goal.key_place-requires
+key_place-requires c =
     (row_key_lying c.requires.0, c.requires.1)
 
-pub returns-then-c-eq0 : goal.returns-then-c-eq0
+pub returns-in_default : goal.returns-in_default
 unfolding row_result
-returns-then-c-eq0 c =
+returns-in_default c =
     λ x cs l m.
-    let z = c.key_place-c.ensures x.key cs (row_key_lies x l) m in
-    result_missing x cs (value_at x.key cs) refl _ z c.if-c-eq0.true
+    let z = c.key_place.ensures x.key cs (row_key_lies x l) m in
+    result_missing x cs (value_at x.key cs) refl _ z c.in_default.is
 
 pub bounds-policy-p : goal.bounds-policy-p
 bounds-policy-p c =
@@ -32,23 +32,23 @@ bounds-policy-p c =
 pub offset_bounds-request-c : goal.offset_bounds-request-c
 offset_bounds-request-c c =
     let l = row_key_lies c.requires.0.thing c.requires.0.lies in
-    let z = c.key_place-c.ensures c.requires.0.thing.key c.requires.1.thing l c.requires.1.lies in
-    let s = something (value_at c.requires.0.thing.key c.requires.1.thing) z c.if-c-eq0.false in
+    let z = c.key_place.ensures c.requires.0.thing.key c.requires.1.thing l c.requires.1.lies in
+    let s = something (value_at c.requires.0.thing.key c.requires.1.thing) z c.in-Some.is in
     omega (arith, found_inside s, s.finds.lies.bounded)
 
 pub bounds-request-c : goal.bounds-request-c
 bounds-request-c c =
     let l = row_key_lies c.requires.0.thing c.requires.0.lies in
-    let z = c.key_place-c.ensures c.requires.0.thing.key c.requires.1.thing l c.requires.1.lies in
-    let s = something (value_at c.requires.0.thing.key c.requires.1.thing) z c.if-c-eq0.false in
+    let z = c.key_place.ensures c.requires.0.thing.key c.requires.1.thing l c.requires.1.lies in
+    let s = something (value_at c.requires.0.thing.key c.requires.1.thing) z c.in-Some.is in
     found_inside s
 
 pub returns-then-not-typed : goal.returns-then-not-typed
 unfolding row_result
 returns-then-not-typed c =
     λ x cs l m.
-    let z = c.key_place-c.ensures x.key cs (row_key_lies x l) m in
-    let s = something (value_at x.key cs) z c.if-c-eq0.false in
+    let z = c.key_place.ensures x.key cs (row_key_lies x l) m in
+    let s = something (value_at x.key cs) z c.in-Some.is in
     let t = c.typed.ensures x.operator s.value (row_operator x l) (found_type s) in
     result_other x cs (value_at x.key cs) refl s.value s.is
     (sym t ∙ c.if-not-typed.true)
@@ -60,15 +60,15 @@ behind_label-l-requires c =
 pub behind_label-v-requires : goal.behind_label-v-requires
 behind_label-v-requires c =
     let l = row_key_lies c.requires.0.thing c.requires.0.lies in
-    let z = c.key_place-c.ensures c.requires.0.thing.key c.requires.1.thing l c.requires.1.lies in
-    let s = something (value_at c.requires.0.thing.key c.requires.1.thing) z c.if-c-eq0.false in
+    let z = c.key_place.ensures c.requires.0.thing.key c.requires.1.thing l c.requires.1.lies in
+    let s = something (value_at c.requires.0.thing.key c.requires.1.thing) z c.in-Some.is in
     context_lying (found_lying s)
 
 pub some_meets-requires : goal.some_meets-requires
 some_meets-requires c =
     let l = row_key_lies c.requires.0.thing c.requires.0.lies in
-    let z = c.key_place-c.ensures c.requires.0.thing.key c.requires.1.thing l c.requires.1.lies in
-    let s = something (value_at c.requires.0.thing.key c.requires.1.thing) z c.if-c-eq0.false in (
+    let z = c.key_place.ensures c.requires.0.thing.key c.requires.1.thing l c.requires.1.lies in
+    let s = something (value_at c.requires.0.thing.key c.requires.1.thing) z c.in-Some.is in (
       row_operating c.requires.0,
       entries_lying c.requires.0 c.behind_label-l.ensures,
       found_value_lying s c.behind_label-v.ensures,
@@ -78,8 +78,8 @@ pub returns-then-some_meets : goal.returns-then-some_meets
 unfolding row_result
 returns-then-some_meets c =
     λ x cs l m.
-    let z = c.key_place-c.ensures x.key cs (row_key_lies x l) m in
-    let s = something (value_at x.key cs) z c.if-c-eq0.false in
+    let z = c.key_place.ensures x.key cs (row_key_lies x l) m in
+    let s = something (value_at x.key cs) z c.in-Some.is in
     let t = c.typed.ensures x.operator s.value (row_operator x l) (found_type s) in
     let es = entries_lie x l c.behind_label-l.ensures in
     let vs = found_lies s c.behind_label-v.ensures in
@@ -87,12 +87,12 @@ returns-then-some_meets c =
     result_by x cs (value_at x.key cs) refl s.value s.is true
     (sym t ∙ c.if-not-typed.false) (sym u ∙ c.if-some_meets.true)
 
-pub returns : goal.returns
+pub returns-else-some_meets : goal.returns-else-some_meets
 unfolding row_result
-returns c =
+returns-else-some_meets c =
     λ x cs l m.
-    let z = c.key_place-c.ensures x.key cs (row_key_lies x l) m in
-    let s = something (value_at x.key cs) z c.if-c-eq0.false in
+    let z = c.key_place.ensures x.key cs (row_key_lies x l) m in
+    let s = something (value_at x.key cs) z c.in-Some.is in
     let t = c.typed.ensures x.operator s.value (row_operator x l) (found_type s) in
     let es = entries_lie x l c.behind_label-l.ensures in
     let vs = found_lies s c.behind_label-v.ensures in

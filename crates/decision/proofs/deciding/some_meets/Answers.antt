@@ -12,41 +12,33 @@ use Rattle.decision.proofs.deciding.some_meets.Goals as goal
 pub bounds-policy-at : goal.bounds-policy-at
 bounds-policy-at c = lies_inside c.requires.1.lies
 
-pub overflow_cast-n : goal.overflow_cast-n
-overflow_cast-n c =
-    omega (arith, c.shared_slice_known-3-1.given c.args.at)
-
 pub overflow_add-e : goal.overflow_add-e
 overflow_add-e c =
     omega (arith, lies_inside c.requires.1.lies, c.requires.1.lies.bounded)
 
-pub loop-i-init : goal.loop-i-init
-loop-i-init c = λ o l y. coming_list l
+pub loop-init : goal.loop-init
+loop-init c = λ o l y. coming_list l
 
 pub meets_at-requires : goal.meets_at-requires
 meets_at-requires c =
-    let w = c.loop-i.invariant c.requires.0 c.requires.1 c.requires.2 in
-    (coming_lying w c.loop-i-test.true, c.requires.2)
+    let w = c.loop.invariant c.requires.0 c.requires.1 c.requires.2 in
+    (coming_lying w c.loop-test.true, c.requires.2)
 
 pub returns-then-meets_at : goal.returns-then-meets_at
 returns-then-meets_at c =
     λ o xs y f l m.
-    let w = c.loop-i.invariant (record { operator = o; is = f }) (lying xs l) (lying y m) in
-    coming_decided w c.loop-i-test.true true
+    let w = c.loop.invariant (record { operator = o; is = f }) (lying xs l) (lying y m) in
+    coming_decided w c.loop-test.true true
     (λ x z zs. any_here (λ u. meets o u y) x zs (sym (c.meets_at.ensures o x y f z m) ∙ c.if-meets_at.true))
 
 pub past_value-e-requires : goal.past_value-e-requires
 past_value-e-requires c =
-    coming_lying (c.loop-i.invariant c.requires.0 c.requires.1 c.requires.2) c.loop-i-test.true
+    coming_lying (c.loop.invariant c.requires.0 c.requires.1 c.requires.2) c.loop-test.true
 
-pub overflow_add-i : goal.overflow_add-i
-overflow_add-i c =
-    omega (arith, c.loop-i-test.true, c.shared_slice_known-3-1.given c.args.at)
-
-pub loop-i-preserved : goal.loop-i-preserved
-loop-i-preserved c =
+pub loop-preserved : goal.loop-preserved
+loop-preserved c =
     λ o l y.
-    coming_next (c.loop-i.invariant o l y) c.loop-i-test.true _
+    coming_next (c.loop.invariant o l y) c.loop-test.true _
     (any_of (λ x. meets o.operator x y.thing))
     (λ x z. c.past_value-e.ensures x z)
     (λ x z zs. any_on (λ u. meets o.operator u y.thing) x zs
@@ -56,4 +48,4 @@ pub returns : goal.returns
 unfolding any_of
 returns c =
     λ o xs y f l m.
-    coming_end (c.loop-i.invariant (record { operator = o; is = f }) (lying xs l) (lying y m)) c.loop-i-test.false
+    coming_end (c.loop.invariant (record { operator = o; is = f }) (lying xs l) (lying y m)) c.loop-test.false

@@ -11,10 +11,10 @@ pub step-requires : goal.step-requires
 step-requires c = tracks_inside _ _ _ c.loop-to.invariant
 
 pub loop-to-smaller : goal.loop-to-smaller
-loop-to-smaller c = next_less _ _ _ c.loop-to.invariant (sym c.step.ensures ∙ c.in-Go.is)
+loop-to-smaller c = next_less _ _ _ c.loop-to.invariant (sym c.step.ensures ∙ c.in-Continue.is)
 
 pub loop-to-preserved : goal.loop-to-preserved
-loop-to-preserved c = next_tracks _ _ _ c.loop-to.invariant (sym c.step.ensures ∙ c.in-Go.is)
+loop-to-preserved c = next_tracks _ _ _ c.loop-to.invariant (sym c.step.ensures ∙ c.in-Continue.is)
 
-pub returns-in-Stop : goal.returns-in-Stop
-returns-in-Stop c = next_answer _ _ _ c.loop-to.invariant (sym c.step.ensures ∙ c.in-Stop.is)
+pub returns-in-Break : goal.returns-in-Break
+returns-in-Break c = next_answer _ _ _ c.loop-to.invariant (sym c.step.ensures ∙ c.in-Break.is)

@@ -2,35 +2,32 @@
 use mathlib.Core.Path.{refl, sym, ◌∙◌}
 use mathlib.Core.Bool.{false}
 use Rattle.syntax.specs.PolicyLayout.{same_sid}
-use Rattle.held.proofs.Laws.RunsWalk.{walk_start, walk_lying, walk_next, walk_end}
+use Rattle.held.proofs.Laws.RunsWalk.{walk_lying, walk_next, walk_end}
 use Rattle.held.proofs.Laws.RunsWalk.{walk_found, like_any}
 use Rattle.held.proofs.runs.has_sid.Goals as goal
 
-pub loop-i-init : goal.loop-i-init
-loop-i-init c = λ x m xs k l. walk_start k l
-
 pub same_sid_at-requires : goal.same_sid_at-requires
 same_sid_at-requires c =
-    let w = c.loop-i.invariant c.requires.1.thing c.requires.1.lies c.requires.0.things c.requires.0.count c.requires.0.lies in
-    (c.requires.1, walk_lying w c.loop-i-test.true)
+    let w = c.loop.invariant c.requires.1.thing c.requires.1.lies c.requires.0.things c.requires.0.count c.requires.0.lies in
+    (c.requires.1, walk_lying w c.loop-test.true)
 
 pub returns-then-same_sid_at : goal.returns-then-same_sid_at
 returns-then-same_sid_at c =
     λ xs x k l m.
-    let w = c.loop-i.invariant x m xs k l in
-    sym (like_any same_sid x xs ∙ walk_found w c.loop-i-test.true
+    let w = c.loop.invariant x m xs k l in
+    sym (like_any same_sid x xs ∙ walk_found w c.loop-test.true
     (λ y z. sym (c.same_sid_at.ensures x y m z) ∙ c.if-same_sid_at.true))
 
 pub statement-q-requires : goal.statement-q-requires
 statement-q-requires c =
-    let w = c.loop-i.invariant c.requires.1.thing c.requires.1.lies c.requires.0.things c.requires.0.count c.requires.0.lies in
-    walk_lying w c.loop-i-test.true
+    let w = c.loop.invariant c.requires.1.thing c.requires.1.lies c.requires.0.things c.requires.0.count c.requires.0.lies in
+    walk_lying w c.loop-test.true
 
-pub loop-i-preserved : goal.loop-i-preserved
-loop-i-preserved c =
+pub loop-preserved : goal.loop-preserved
+loop-preserved c =
     λ x m xs k l.
-    let w = c.loop-i.invariant x m xs k l in
-    walk_next w c.loop-i-test.true _ 0 false
+    let w = c.loop.invariant x m xs k l in
+    walk_next w c.loop-test.true _ 0 false
     (λ y z. (
       (c.statement-q.ensures y z).past,
       refl,
@@ -40,4 +37,4 @@ loop-i-preserved c =
 pub returns : goal.returns
 returns c =
     λ xs x k l m.
-    (walk_end (c.loop-i.invariant x m xs k l) c.loop-i-test.false).limit ∙ sym (like_any same_sid x xs)
+    (walk_end (c.loop.invariant x m xs k l) c.loop-test.false).limit ∙ sym (like_any same_sid x xs)

@@ -1,17 +1,7 @@
 -- None of the statements passed has the Sid; whichever statements lie at the places are the ones compared.
 use mathlib.Core.Path.{sym, ◌∙◌}
-use native.Mathlib.Omega.{arith}
-use Rattle.held.proofs.Laws.Placed.{left_start, left_lying, left_found, left_next, left_end}
+use Rattle.held.proofs.Laws.Placed.{left_lying, left_found, left_next, left_end}
 use Rattle.held.proofs.runs.has_sid_at.Goals as goal
-
-pub loop-i-init : goal.loop-i-init
-loop-i-init c = λ e xs x g m. left_start g
-
-pub offset_bounds-places-i : goal.offset_bounds-places-i
-offset_bounds-places-i c = omega (arith, c.loop-i-test.true, c.requires.0.placed.few)
-
-pub bounds-places-i : goal.bounds-places-i
-bounds-places-i c = omega (arith, c.loop-i-test.true, c.requires.0.placed.few)
 
 pub same_sid_at-requires : goal.same_sid_at-requires
 same_sid_at-requires c =

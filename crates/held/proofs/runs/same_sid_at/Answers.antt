@@ -10,32 +10,12 @@ pub bounds-run-p : goal.bounds-run-p
 bounds-run-p c =
     (statement_named c.requires.0.thing c.requires.0.lies).inside
 
-pub overflow_cast-to : goal.overflow_cast-to
-overflow_cast-to c =
-    let y = statement_named c.requires.0.thing c.requires.0.lies in
-    omega (arith, y.ends, y.bounded)
-
-pub overflow_add-to-2 : goal.overflow_add-to-2
-overflow_add-to-2 c =
-    let y = statement_named c.requires.0.thing c.requires.0.lies in
-    omega (arith, y.ends, y.bounded)
-
 pub returns-then-from-to : goal.returns-then-from-to
 returns-then-from-to c = λ x y l m. sid_none x y (omega (arith, (statement_named x l).count, c.if-from-to.true))
 
 pub bounds-run-q : goal.bounds-run-q
 bounds-run-q c =
     (statement_named c.requires.1.thing c.requires.1.lies).inside
-
-pub overflow_cast-b : goal.overflow_cast-b
-overflow_cast-b c =
-    let y = statement_named c.requires.1.thing c.requires.1.lies in
-    omega (arith, y.ends, y.bounded)
-
-pub overflow_add-b-2 : goal.overflow_add-b-2
-overflow_add-b-2 c =
-    let y = statement_named c.requires.1.thing c.requires.1.lies in
-    omega (arith, y.ends, y.bounded)
 
 pub slice_bounds-same_text-end : goal.slice_bounds-same_text-end
 slice_bounds-same_text-end c =

@@ -7,16 +7,6 @@ use Rattle.held.proofs.runs.statement.Goals as goal
 pub bounds-run-at : goal.bounds-run-at
 bounds-run-at c = (statement_named c.requires.thing c.requires.lies).inside
 
-pub overflow_cast-n : goal.overflow_cast-n
-overflow_cast-n c =
-    let y = statement_named c.requires.thing c.requires.lies in
-    omega (arith, y.ends, y.bounded)
-
-pub overflow_add-at-2 : goal.overflow_add-at-2
-overflow_add-at-2 c =
-    let y = statement_named c.requires.thing c.requires.lies in
-    omega (arith, y.ends, y.bounded)
-
 pub list-a-requires : goal.list-a-requires
 list-a-requires c = actions_lying c.requires.thing c.requires.lies
 

@@ -1,25 +1,25 @@
 -- Each turn passes one value; whichever values lie at the place are the ones walked over.
-use mathlib.Core.Path.{refl}
-use Rattle.held.proofs.Laws.Runs.{or_either}
-use Rattle.held.proofs.Laws.RunsWalk.{walk_start, walk_lying, walk_next, walk_end}
+use mathlib.Core.Path.{◌∙◌}
+use native.Mathlib.Omega.{arith}
+use Rattle.held.proofs.Laws.Runs.{value_long}
+use Rattle.held.proofs.Laws.RunsWalk.{walk_lying, walk_turn, walk_few, walk_end, one_each}
 use Rattle.held.proofs.runs.values.Goals as goal
 
-pub loop-i-init : goal.loop-i-init
-loop-i-init c = λ xs k l. walk_start k l
+pub value-requires : goal.value-requires
+value-requires c = walk_lying (c.loop.invariant c.requires.things c.requires.count c.requires.lies) c.loop-test.true
 
-pub value-v-requires : goal.value-v-requires
-value-v-requires c =
-    walk_lying (c.loop-i.invariant c.requires.things c.requires.count c.requires.lies) c.loop-i-test.true
+pub then-seen-requires : goal.then-seen-requires
+then-seen-requires c =
+    let w = c.loop.invariant c.requires.things c.requires.count c.requires.lies in
+    let v = walk_turn w c.loop-test.true _ c.value.ensures in
+    omega (arith, walk_few v c.requires.lies value_long)
 
-pub loop-i-preserved : goal.loop-i-preserved
-loop-i-preserved c =
-    λ xs k l. walk_next (c.loop-i.invariant xs k l) c.loop-i-test.true _ 0 _
-    (λ x m.
-    let q = c.value-v.ensures x m in
-    (q.past, refl, or_either {t = c.loop-i.over} refl q.limit))
+pub loop-preserved : goal.loop-preserved
+loop-preserved c =
+    λ xs k l. rw c.then-seen.ensures (walk_turn (c.loop.invariant xs k l) c.loop-test.true _ c.value.ensures)
 
 pub returns : goal.returns
 returns c =
     λ xs k l.
-    let q = walk_end (c.loop-i.invariant xs k l) c.loop-i-test.false in
-    record { past = q.past; many = k; limit = q.limit }
+    let q = walk_end (c.loop.invariant xs k l) c.loop-test.false in
+    record { past = q.past; many = q.many ∙ one_each xs; limit = q.limit }

@@ -3,102 +3,53 @@ use mathlib.Core.Path.{◌∙◌}
 use native.Mathlib.Omega.{arith}
 use Rattle.syntax.specs.RecordLayout.{context_of}
 use Rattle.held.specs.Held.{held_context}
-use Rattle.straight.proofs.Laws.Taking.{takes_past}
 use Rattle.straight.proofs.Laws.Going.{going_size, going_fits, going_less}
 use Rattle.straight.proofs.Laws.Lists.{element_passed}
 use Rattle.straight.proofs.Laws.Differing.{differing_start, differing_roomy, differing_lying}
 use Rattle.straight.proofs.Laws.Differing.{differing_new, differing_more, differing_end}
 use Rattle.objects.proofs.Laws.Contexts.{entries, contexts_from, entries_mean}
+use Rattle.straight.proofs.Laws.Taking.{none_several}
 use Rattle.objects.proofs.contexts.differing.Goals as goal
 
-pub loop-past-init : goal.loop-past-init
-loop-past-init c =
-    differing_start entries c.requires (c.opened-i.ensures.found c.if-i-eq0.false)
+pub loop-h-init : goal.loop-h-init
+loop-h-init c =
+    differing_start entries c.requires (c.opened.ensures.found _ c.in_ok-i.was)
 
-pub context-h-requires : goal.context-h-requires
-context-h-requires c = differing_roomy entries c.loop-past.invariant
+pub context-requires : goal.context-requires
+context-requires c = differing_roomy entries c.loop-h.invariant
 
-pub shape_of-run-in_default : goal.shape_of-run-in_default
-shape_of-run-in_default c =
-    c.context-h.auto.run ∙ c.loop-past.invariant.going.extends.size
+pub returns-in_err-h : goal.returns-in_err-h
+returns-in_err-h c =
+    none_several _ _ _ _ _ _ _ _ c.from_residual-in_err-h.ensures (c.context.auto.run ∙ c.loop-h.invariant.going.extends.size)
+
+pub has_context_key-requires : goal.has_context_key-requires
+has_context_key-requires c = differing_lying entries c.loop-h.invariant (element_passed held_context context_of 2 c.in_ok-h.ensures)
+
+pub returns-then-has_context_key : goal.returns-then-has_context_key
+returns-then-has_context_key c = going_size entries.frame _ c.loop-h.invariant.going (element_passed held_context context_of 2 c.in_ok-h.ensures)
+
+pub overflow_add-count : goal.overflow_add-count
+overflow_add-count c = omega (arith, going_fits entries.frame _ c.loop-h.invariant.going (element_passed held_context context_of 2 c.in_ok-h.ensures))
+
+pub parted-requires : goal.parted-requires
+parted-requires c = (element_passed held_context context_of 2 c.in_ok-h.ensures).inside
+
+pub closed-requires : goal.closed-requires
+closed-requires c = (element_passed held_context context_of 2 c.in_ok-h.ensures).inside
 
 pub returns-in_default : goal.returns-in_default
 returns-in_default c =
-    c.context-h.auto.run ∙ c.loop-past.invariant.going.extends.size
+    let passed = element_passed held_context context_of 2 c.in_ok-h.ensures in
+    let new = differing_new entries c.loop-h.invariant passed _ c.has_context_key.ensures c.if-has_context_key.false in
+    differing_end entries c.loop-h.invariant passed new contexts_from entries_mean (c.closed.ensures.found _ c.in_ok-end.was)
 
-pub has_context_key-requires : goal.has_context_key-requires
-has_context_key-requires c = differing_lying entries (c.loop-past.invariant) ((element_passed held_context context_of 2
-    (takes_past held_context 2 c.args.s.now c.loop-past.run c.context-h.new.run
-    c.loop-past.i c.loop-past.p context_of c.context-h.ensures c.in-Past.is)))
+pub loop-h-smaller : goal.loop-h-smaller
+loop-h-smaller c =
+    going_less entries.frame _ c.loop-h.invariant.going (element_passed held_context context_of 2 c.in_ok-h.ensures)
+    (c.parted.ensures.found _ c.in-Some.is)
 
-pub shape_of-run-then-has_context_key : goal.shape_of-run-then-has_context_key
-shape_of-run-then-has_context_key c = (going_size entries.frame _ (c.loop-past.invariant).going ((element_passed held_context context_of 2
-    (takes_past held_context 2 c.args.s.now c.loop-past.run c.context-h.new.run
-    c.loop-past.i c.loop-past.p context_of c.context-h.ensures c.in-Past.is))))
-
-pub returns-then-has_context_key : goal.returns-then-has_context_key
-returns-then-has_context_key c = (going_size entries.frame _ (c.loop-past.invariant).going ((element_passed held_context context_of 2
-    (takes_past held_context 2 c.args.s.now c.loop-past.run c.context-h.new.run
-    c.loop-past.i c.loop-past.p context_of c.context-h.ensures c.in-Past.is))))
-
-pub overflow_add-n : goal.overflow_add-n
-overflow_add-n c =
-    omega (
-      arith,
-      going_fits entries.frame _ (c.loop-past.invariant).going ((element_passed held_context context_of 2
-          (takes_past held_context 2 c.args.s.now c.loop-past.run c.context-h.new.run
-          c.loop-past.i c.loop-past.p context_of c.context-h.ensures c.in-Past.is))),
-    )
-
-pub parted-c-requires : goal.parted-c-requires
-parted-c-requires c = ((element_passed held_context context_of 2
-    (takes_past held_context 2 c.args.s.now c.loop-past.run c.context-h.new.run
-    c.loop-past.i c.loop-past.p context_of c.context-h.ensures c.in-Past.is))).inside
-
-pub closed-e-requires : goal.closed-e-requires
-closed-e-requires c = ((element_passed held_context context_of 2
-    (takes_past held_context 2 c.args.s.now c.loop-past.run c.context-h.new.run
-    c.loop-past.i c.loop-past.p context_of c.context-h.ensures c.in-Past.is))).inside
-
-pub shape_of-run-then-e-eq0 : goal.shape_of-run-then-e-eq0
-shape_of-run-then-e-eq0 c = (going_size entries.frame _ (c.loop-past.invariant).going ((element_passed held_context context_of 2
-    (takes_past held_context 2 c.args.s.now c.loop-past.run c.context-h.new.run
-    c.loop-past.i c.loop-past.p context_of c.context-h.ensures c.in-Past.is))))
-
-pub returns-then-e-eq0 : goal.returns-then-e-eq0
-returns-then-e-eq0 c = (going_size entries.frame _ (c.loop-past.invariant).going ((element_passed held_context context_of 2
-    (takes_past held_context 2 c.args.s.now c.loop-past.run c.context-h.new.run
-    c.loop-past.i c.loop-past.p context_of c.context-h.ensures c.in-Past.is))))
-
-pub shape_of-run-then-c-eq0 : goal.shape_of-run-then-c-eq0
-shape_of-run-then-c-eq0 c = (going_size entries.frame _ (c.loop-past.invariant).going ((element_passed held_context context_of 2
-    (takes_past held_context 2 c.args.s.now c.loop-past.run c.context-h.new.run
-    c.loop-past.i c.loop-past.p context_of c.context-h.ensures c.in-Past.is))))
-
-pub returns-then-c-eq0 : goal.returns-then-c-eq0
-returns-then-c-eq0 c =
-    let new = differing_new entries (c.loop-past.invariant) ((element_passed held_context context_of 2
-    (takes_past held_context 2 c.args.s.now c.loop-past.run c.context-h.new.run
-    c.loop-past.i c.loop-past.p context_of c.context-h.ensures c.in-Past.is))) _ c.has_context_key.ensures
-    c.if-has_context_key.false in
-    differing_end entries (c.loop-past.invariant) ((element_passed held_context context_of 2
-    (takes_past held_context 2 c.args.s.now c.loop-past.run c.context-h.new.run
-    c.loop-past.i c.loop-past.p context_of c.context-h.ensures c.in-Past.is))) new contexts_from entries_mean
-    (c.closed-e.ensures.found c.if-e-eq0.false)
-
-pub loop-past-smaller : goal.loop-past-smaller
-loop-past-smaller c =
-    going_less entries.frame _ (c.loop-past.invariant).going ((element_passed held_context context_of 2
-    (takes_past held_context 2 c.args.s.now c.loop-past.run c.context-h.new.run
-    c.loop-past.i c.loop-past.p context_of c.context-h.ensures c.in-Past.is)))
-    (c.parted-c.ensures.found c.if-c-eq0.false)
-
-pub loop-past-preserved : goal.loop-past-preserved
-loop-past-preserved c =
-    let new = differing_new entries (c.loop-past.invariant) ((element_passed held_context context_of 2
-    (takes_past held_context 2 c.args.s.now c.loop-past.run c.context-h.new.run
-    c.loop-past.i c.loop-past.p context_of c.context-h.ensures c.in-Past.is))) _ c.has_context_key.ensures
-    c.if-has_context_key.false in
-    differing_more entries (c.loop-past.invariant) ((element_passed held_context context_of 2
-    (takes_past held_context 2 c.args.s.now c.loop-past.run c.context-h.new.run
-    c.loop-past.i c.loop-past.p context_of c.context-h.ensures c.in-Past.is))) new (c.parted-c.ensures.found c.if-c-eq0.false)
+pub loop-h-preserved : goal.loop-h-preserved
+loop-h-preserved c =
+    let passed = element_passed held_context context_of 2 c.in_ok-h.ensures in
+    let new = differing_new entries c.loop-h.invariant passed _ c.has_context_key.ensures c.if-has_context_key.false in
+    differing_more entries c.loop-h.invariant passed new (c.parted.ensures.found _ c.in-Some.is)

@@ -5,8 +5,8 @@ use Rattle.straight.proofs.Laws.Differing.{Differing}
 use Rattle.objects.proofs.Laws.Contexts.{entries}
 use Rattle.objects.proofs.contexts.differing.Given as goal
 
-abbrev pub invariant-loop-past : goal.invariant-loop-past
-invariant-loop-past l = Differing entries l.s l.v l.initial.run l.at l.i l.run l.p l.n
+abbrev pub invariant-loop-h : goal.invariant-loop-h
+invariant-loop-h l = Differing entries l.s l.v l.initial.run l.at l.i l.run l.past l.count
 
-abbrev pub decreases-loop-past : goal.decreases-loop-past
-decreases-loop-past l = length l.s - l.i
+abbrev pub decreases-loop-h : goal.decreases-loop-h
+decreases-loop-h l = length l.s - l.i

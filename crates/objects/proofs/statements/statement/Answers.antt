@@ -5,43 +5,42 @@ use Prim.Native.Nat.{◌+◌, ◌≤◌}
 use native.Mathlib.Omega.{arith}
 use lib.ListN.{length}
 use Rattle.straight.proofs.Laws.Reads.{opened_inside}
-use Rattle.objects.proofs.Laws.Statements.{begun_kept, begun_low, statement_sorted, statement_taken}
+use Rattle.objects.proofs.Laws.Statements.{statements_proper, begun_kept, begun_low, statement_sorted, statement_taken}
 use Rattle.objects.proofs.Laws.Leaving.{statement_stuck}
 use Rattle.objects.proofs.statements.statement.Goals as goal
 
-pub gathered-spans-requires : goal.gathered-spans-requires
-gathered-spans-requires c =
+pub gathered-requires : goal.gathered-requires
+gathered-requires c =
     let low : c.args.at + 2 ≤ length c.args.run.now =
     omega (arith, c.if-run-at-lt2.false, c.requires.room) in (
-      opened_inside (c.first_name-i.ensures.found c.if-i-eq0.false).opened,
-      record {
-        room = omega (arith, begun_low low c.begun-base.ensures);
-        bounded = omega (arith, c.requires.bounded, (begun_kept low c.begun-base.ensures).size);
-      },
+      statements_proper,
+      (
+        opened_inside c.in-Some.ensures.opened,
+        record {
+          room = omega (arith, begun_low low c.begun-base.ensures);
+          bounded = omega (arith, c.requires.bounded, (begun_kept low c.begun-base.ensures).size);
+        },
+      ),
     )
 
-pub returns-then-spans-eq0 : goal.returns-then-spans-eq0
-returns-then-spans-eq0 c =
+pub returns-in-Err : goal.returns-in-Err
+returns-in-Err c =
     let low : c.args.at + 2 ≤ length c.args.run.now =
     omega (arith, c.if-run-at-lt2.false, c.requires.room) in
-    let name = c.first_name-i.ensures.found c.if-i-eq0.false in (
-      c.gathered-spans.ensures.gathers.size ∙ (begun_kept low c.begun-base.ensures).size,
-      (name.opened.at, λ n h. statement_stuck name (c.gathered-spans.ensures.came c.if-spans-eq0.true) n h),
+    let name = c.in-Some.ensures in (
+      c.in-Err.ensures.0 ∙ (begun_kept low c.begun-base.ensures).size,
+      (name.opened.at, λ n h. statement_stuck name c.in-Err.ensures.1 n h),
     )
 
-pub arranged-past-requires : goal.arranged-past-requires
-arranged-past-requires c =
+pub arranged-requires : goal.arranged-requires
+arranged-requires c =
     let low : c.args.at + 2 ≤ length c.args.run.now =
     omega (arith, c.if-run-at-lt2.false, c.requires.room) in
-    record {
-      slots = _;
-      sorted = statement_sorted low c.begun-base.ensures c.gathered-spans.ensures.gathers
-          c.if-end-eq0.false c.with_sid-sid.ensures;
-    }
+    record { slots = _; sorted = statement_sorted low c.begun-base.ensures c.in-Ok.ensures c.in-Some-with_sid.ensures }
 
 pub returns : goal.returns
 returns c =
     let low : c.args.at + 2 ≤ length c.args.run.now =
     omega (arith, c.if-run-at-lt2.false, c.requires.room) in
-    statement_taken low c.begun-base.ensures c.gathered-spans.ensures.gathers c.if-end-eq0.false c.with_sid-sid.ensures (c.first_name-i.ensures.found c.if-i-eq0.false).opened
-    ((c.arranged-past.ensures _ (statement_sorted low c.begun-base.ensures c.gathered-spans.ensures.gathers c.if-end-eq0.false c.with_sid-sid.ensures)).found c.if-past-eq0.false)
+    statement_taken low c.begun-base.ensures c.in-Ok.ensures c.in-Some-with_sid.ensures c.in-Some.ensures.opened
+    (c.in-Some-arranged.ensures _ (statement_sorted low c.begun-base.ensures c.in-Ok.ensures c.in-Some-with_sid.ensures))

@@ -13,12 +13,11 @@ use Rattle.held.specs.Held.{held_text}
 use Rattle.syntax.specs.Told.{told_number}
 use Rattle.parts.specs.Room.{Roomy}
 use Rattle.parts.specs.Holding.{Extends, Laid}
-use Rattle.syntax.specs.declared.numbers.Number.{Number}
-use Rattle.syntax.specs.declared.numbers.Number.TheVariants as N
+use Rattle.std.specs.Prelude.{Option, Some, None}
 use Rattle.parts.specs.Requests.{typed_as}
 use Rattle.parts.proofs.Laws.Extends.{extends_none, extends_front, extends_within}
 use Rattle.parts.proofs.Laws.Formed.{part_is, then_read}
-use Rattle.parts.proofs.Laws.Requests.Tests.{typed_number}
+use Rattle.parts.specs.declared.words.ValueType.TheVariants as V
 
 pub extends_two :
     (run : List ℕ) (at a b : ℕ) → at + 2 ≤ length run
@@ -39,26 +38,26 @@ some_digit [] e = absurd (let z : ◌≡◌ {A = ℕ} 0 1 = cc in omega arith)
 some_digit (c ∷ cs) e = omega arith
 
 module _ {run run' : List ℕ} {at p : ℕ} {x : Reading (List ℕ)} (low : at ≤ length run)
-    (d : Laid held_text run run' at x p) (r : Number) (t : told_number r ≡ number_in (mid_of (at + 1) (p - (at + 1)) run'))
-    (k : ℕ) (h : k ≡ 1 → ⊥) where
-  told : number_in d.thing ≡ told_number r
-  told = ap number_in (sym (part_is low d)) ∙ sym t
+    (d : Laid held_text run run' at x p) (r : Option ℕ) (t : told_number r ≡ number_in (mid_of (at + 1) (p - (at + 1)) run'))
+  where
+    told : number_in d.thing ≡ told_number r
+    told = ap number_in (sym (part_is low d)) ∙ sym t
 
-  pub number_no : r ≡ N.Wrong → then x (typed_as k) ≡ wrong
-  number_no e =
-      then_read (typed_as k) d.said ∙ typed_number k d.thing h ∙ ap as_number (told ∙ ap told_number e)
+    pub number_no : r ≡ None → then x (typed_as V.Number) ≡ wrong
+    number_no e =
+        then_read (typed_as V.Number) d.said ∙ ap as_number (told ∙ ap told_number e)
 
-  module _ (n : ℕ) (e : r ≡ N.Is n) where
-    pub number_read : number_in d.thing ≡ read n
-    number_read = told ∙ ap told_number e
+    module _ (n : ℕ) (e : r ≡ Some n) where
+      pub number_read : number_in d.thing ≡ read n
+      number_read = told ∙ ap told_number e
 
-    pub number_said : then x (typed_as k) ≡ read (P.number n)
-    number_said = then_read (typed_as k) d.said ∙ typed_number k d.thing h ∙ ap as_number number_read
+      pub number_said : then x (typed_as V.Number) ≡ read (P.number n)
+      number_said = then_read (typed_as V.Number) d.said ∙ ap as_number number_read
 
-    pub number_room : length run ≤ 16384 → Roomy run' at 2
-    number_room b =
-        let q = extends_within d.extends low in
-        record {
-          room = omega (arith, some_digit d.thing number_read, d.extends.place, q);
-          bounded = omega (arith, d.extends.size);
-        }
+      pub number_room : length run ≤ 16384 → Roomy run' at 2
+      number_room b =
+          let q = extends_within d.extends low in
+          record {
+            room = omega (arith, some_digit d.thing number_read, d.extends.place, q);
+            bounded = omega (arith, d.extends.size);
+          }

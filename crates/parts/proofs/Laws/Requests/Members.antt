@@ -1,21 +1,16 @@
 -- A member that may be absent: where its value stands; what the tests of kinds and the answers tell of a value.
-use mathlib.Core.Path.{◌≡◌, refl, sym, ap, ◌∙◌, subst}
-use mathlib.Core.Bool.{Bool}
+use mathlib.Core.Path.{◌≡◌, refl, sym, ap, subst}
 use mathlib.Core.List.{List}
 use Prim.Native.Nat.{ℕ}
 use native.Mathlib.Omega.{arith}
 use Rattle.text.specs.Json.{Json}
-use Rattle.text.specs.Contents.{kind_of, Stands}
-use Rattle.text.specs.declared.walk.Kind.{Kind}
+use Rattle.text.specs.Contents.{Stands}
 use Rattle.syntax.specs.Forms.{Reading, wrong}
 use Rattle.syntax.specs.Members.{Slot, none, one}
 use Rattle.parts.specs.Slots.{Placed, absent, stands}
 use Rattle.parts.specs.Room.{cost_of, Holdable, HoldableSlot}
-use Rattle.parts.specs.Holding.{Left, Holds, HoldsTo, past_of}
-use Rattle.parts.specs.declared.holding.Held.{Held}
-use Rattle.parts.specs.declared.holding.Held.TheVariants.{Wrong}
-use Rattle.parts.specs.declared.holding.Ended.{Ended}
-use Rattle.parts.specs.declared.holding.Ended.TheVariants as N
+use Rattle.parts.specs.Holding.{Left, Holds}
+use Rattle.std.specs.Prelude.{Option, None}
 use Rattle.parts.proofs.Laws.Room.{roomy_less}
 use Rattle.parts.proofs.Laws.Formed.{holds_wrong}
 
@@ -45,33 +40,15 @@ slot_holdable p h =
       roomy = roomy_less p.roomy refl (omega (arith, ap cost_of f.is));
     }
 
--- what a test told of the kind told
-pub is_kind :
-    {s : List ℕ} {v : ℕ} {k : Kind} {b c : Bool} (f : Kind → Bool)
-    → ((t : Json) (e : ℕ) → Stands s t v e → k ≡ kind_of t) → b ≡ f k → b ≡ c
-    → (t : Json) (e : ℕ) → Stands s t v e → f (kind_of t) ≡ c
-is_kind f g h z t e p = ap f (sym (g t e p)) ∙ sym h ∙ z
-
--- where the answer is Wrong, what was to be held and what is read of it are wrong
+-- where the answer is None, what was to be held and what is read of it are wrong
 pub refused :
-    {A B : Type 0} (h : A → List ℕ) (run run' : List ℕ) (at : ℕ) (x : Reading A) (y : Reading B) {r : Held}
-    → Holds h run run' at x r → r ≡ Wrong → (x ≡ wrong → y ≡ wrong) → Left run run' y
+    {A B : Type 0} (h : A → List ℕ) (run run' : List ℕ) (at : ℕ) (x : Reading A) (y : Reading B) {r : Option ℕ}
+    → Holds h run run' at x r → r ≡ None → (x ≡ wrong → y ≡ wrong) → Left run run' y
 refused h run run' at x y f e g =
     let l = holds_wrong h run run' at x f e in
     record { size = l.size; said = g l.said }
 
 pub holds_as :
-    {A : Type 0} (h : A → List ℕ) (run run' : List ℕ) (at : ℕ) (x y : Reading A) (r : Held)
+    {A : Type 0} (h : A → List ℕ) (run run' : List ℕ) (at : ℕ) (x y : Reading A) (r : Option ℕ)
     → Holds h run run' at x r → y ≡ x → Holds h run run' at y r
 holds_as h run run' at x y r f e = subst (λ z. Holds h run run' at z r) (sym e) f
-
--- the answer without the end, of what is read likewise
-pub holds_past_of :
-    {A : Type 0} (h : A → List ℕ) (run run' : List ℕ) (at : ℕ) (x y : Reading A) (e : ℕ) (r : Ended) {q : Held}
-    → HoldsTo h run run' at x e r → q ≡ past_of r → y ≡ x → Holds h run run' at y q
-holds_past_of {A} h run run' at x y e r f k z =
-    subst (Holds h run run' at y) (sym k) (holds_as h run run' at x y (past_of r) (by r f) z)
-  where
-    by : (r : Ended) → HoldsTo h run run' at x e r → Holds h run run' at x (past_of r)
-    by (N.Past p q) f = f.0
-    by N.Wrong f = f

@@ -1,7 +1,7 @@
 -- The decoder lays the characters behind the place of their number; there is room for as many as bytes.
 use Prim.Native.Nat.{◌≤◌}
 use native.Mathlib.Omega.{arith}
-use Rattle.parts.proofs.Laws.Holding.{held_size, held_lone, held_short, held_count, held_text_lem}
+use Rattle.parts.proofs.Laws.Holding.{held_size, held_wrong, held_count, held_text_lem}
 use borrow.Author.Rules.{rules}
 use Rattle.parts.proofs.holding.hold_raw.Goals as goal
 
@@ -10,8 +10,8 @@ overflow_cast-run c =
     let n = held_count c.args.run.now _ _
     c.args.at
     c.requires _
-    c.decode-d.ensures _ c.in-Count.is in
-    let k : c.in-Count.n ≤ 16384 = omega (
+    c.decode-d.ensures _ c.in-Ok.is in
+    let k : c.in-Ok.n ≤ 16384 = omega (
       arith,
       n.1,
       c.requires.room,
@@ -23,35 +23,23 @@ overflow_add-result c =
     let n = held_count c.args.run.now _ _
     c.args.at
     c.requires _
-    c.decode-d.ensures _ c.in-Count.is in
-    let k : c.in-Count.n ≤ 16384 = omega (
+    c.decode-d.ensures _ c.in-Ok.is in
+    let k : c.in-Ok.n ≤ 16384 = omega (
       arith,
       n.1,
       c.requires.room,
       c.requires.bounded,
     ) in search rules
 
-pub returns-in-Count : goal.returns-in-Count
-returns-in-Count c = held_text_lem c.args.run.now _ _
+pub returns-in-Ok : goal.returns-in-Ok
+returns-in-Ok c = held_text_lem c.args.run.now _ _
     c.args.at
     c.requires _
-    c.decode-d.ensures _ c.in-Count.is
+    c.decode-d.ensures _ c.in-Ok.is
 
-pub returns-in-Lone : goal.returns-in-Lone
-returns-in-Lone c =
+pub returns-in-Err : goal.returns-in-Err
+returns-in-Err c =
     record {
-      size = held_size c.args.run.now _ _
-          c.args.at
-          c.requires _
-          c.decode-d.ensures;
-      said = held_lone c.args.run.now _ _
-          c.args.at
-          c.requires _
-          c.decode-d.ensures c.in-Lone.is;
+      size = held_size c.args.run.now _ _ c.args.at c.requires _ c.decode-d.ensures;
+      said = held_wrong c.args.run.now _ _ c.args.at c.requires _ c.decode-d.ensures _ c.in-Err.is;
     }
-
-pub returns-in-Short : goal.returns-in-Short
-returns-in-Short c = absurd (held_short c.args.run.now _
-    _ c.args.at
-    c.requires _
-    c.decode-d.ensures c.in-Short.is)

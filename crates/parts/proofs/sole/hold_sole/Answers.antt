@@ -4,39 +4,40 @@ use mathlib.Core.Path.{refl, ◌∙◌}
 use native.Mathlib.Omega.{arith}
 use Rattle.syntax.specs.Members.{characters_of}
 use Rattle.held.specs.Held.{held_text}
-use Rattle.parts.specs.Holding.{is_list}
+use Rattle.syntax.specs.RecordLayout.{only_one}
 use Rattle.parts.proofs.Laws.Room.{roomy_less}
 use Rattle.parts.proofs.Laws.Formed.{ends_past, ends_wrong}
-use Rattle.parts.proofs.Laws.Requests.Members.{is_kind}
 use Rattle.parts.proofs.Laws.Requests.Sole.{only_not, is_list_lem, list_stands, only_empty, list_begun}
 use Rattle.parts.proofs.Laws.Requests.Sole.{begun_rest, begun_cost, begun_wrong, begun_more, begun_sole}
+use Rattle.parts.proofs.Laws.Formed.{none_ends}
+use Rattle.parts.proofs.Laws.Kinds.{list_told}
 use Rattle.parts.proofs.sole.hold_sole.Goals as goal
 
-pub returns-then-not-is_list : goal.returns-then-not-is_list
-returns-then-not-is_list c =
+pub returns-then-ne : goal.returns-then-ne
+returns-then-ne c =
     λ t e p. record {
       size = refl;
-      said = only_not characters_of t (is_kind is_list c.kind_at.ensures c.is_list.ensures
-          c.if-not-is_list.true t e p);
+      said = only_not characters_of t (list_told c.kind_at.ensures c.ne.ensures
+          c.if-ne.true t e p);
     }
 
-pub first_element-m-requires : goal.first_element-m-requires
-first_element-m-requires c =
-    let l = is_kind is_list c.kind_at.ensures c.is_list.ensures c.if-not-is_list.false _ _ c.requires.is in
+pub first_element-requires : goal.first_element-requires
+first_element-requires c =
+    let l = list_told c.kind_at.ensures c.ne.ensures c.if-ne.false _ _ c.requires.is in
     record { what = _; stop = _; is = list_stands c.requires.is (is_list_lem _ l) }
 
 pub returns-in_default : goal.returns-in_default
 returns-in_default c =
     λ t e p. record {
       size = refl;
-      said = only_empty t p (is_kind is_list c.kind_at.ensures c.is_list.ensures c.if-not-is_list.false t e p) _
-          c.first_element-m.ensures characters_of c.in_default.is;
+      said = only_empty t p (list_told c.kind_at.ensures c.ne.ensures c.if-ne.false t e p) _
+          c.first_element.ensures characters_of c.in_default.is;
     }
 
-pub hold_string-h-requires : goal.hold_string-h-requires
-hold_string-h-requires c =
-    let b = (list_begun _ c.requires.is (is_kind is_list c.kind_at.ensures c.is_list.ensures c.if-not-is_list.false _ _ c.requires.is) _
-    c.first_element-m.ensures c.in-At.is) in
+pub hold_string-requires : goal.hold_string-requires
+hold_string-requires c =
+    let b = (list_begun _ c.requires.is (list_told c.kind_at.ensures c.ne.ensures c.if-ne.false _ _ c.requires.is) _
+    c.first_element.ensures c.in-At.is) in
     record {
       what = b.head;
       stop = b.stop;
@@ -44,49 +45,50 @@ hold_string-h-requires c =
       roomy = roomy_less c.requires.roomy refl (omega (arith, begun_cost b));
     }
 
-pub returns-in_default-h : goal.returns-in_default-h
-returns-in_default-h c =
-    λ t e p. let b = (list_begun t p (is_kind is_list c.kind_at.ensures c.is_list.ensures c.if-not-is_list.false t e p) _
-    c.first_element-m.ensures c.in-At.is) in
-    let w = ends_wrong held_text c.args.run.now c.hold_string-h.new.run c.args.at
-    (characters_of b.head) b.stop (c.hold_string-h.ensures _ _ b.at) c.in_default-h.is in
-    record { size = w.size; said = begun_wrong b characters_of w.said }
+pub returns-in_err-past : goal.returns-in_err-past
+returns-in_err-past c =
+    λ t e p. let b = (list_begun t p (list_told c.kind_at.ensures c.ne.ensures c.if-ne.false t e p) _
+    c.first_element.ensures c.in-At.is) in
+    let w = ends_wrong held_text c.args.run.now c.hold_string.new.run c.args.at
+    (characters_of b.head) b.stop (c.hold_string.ensures _ _ b.at) c.in_err-past.was in
+    none_ends held_text c.args.run.now _ c.args.at (only_one characters_of t) _ c.from_residual.ensures
+    (record { size = w.size; said = begun_wrong b characters_of w.said })
 
-pub next_element-n-requires : goal.next_element-n-requires
-next_element-n-requires c =
-    let b = (list_begun _ c.requires.is (is_kind is_list c.kind_at.ensures c.is_list.ensures c.if-not-is_list.false _ _ c.requires.is) _
-    c.first_element-m.ensures c.in-At.is) in
+pub next_element-requires : goal.next_element-requires
+next_element-requires c =
+    let b = (list_begun _ c.requires.is (list_told c.kind_at.ensures c.ne.ensures c.if-ne.false _ _ c.requires.is) _
+    c.first_element.ensures c.in-At.is) in
     record {
       what = b.tail;
       stop = _;
-      is = begun_rest b ((let b = (list_begun _ c.requires.is (is_kind is_list c.kind_at.ensures c.is_list.ensures c.if-not-is_list.false _ _ c.requires.is) _
-          c.first_element-m.ensures c.in-At.is) in
-          ends_past held_text c.args.run.now c.hold_string-h.new.run c.args.at
-          (characters_of b.head) b.stop (c.hold_string-h.ensures _ _ b.at) c.in-Past.is)).1;
+      is = begun_rest b ((let b = (list_begun _ c.requires.is (list_told c.kind_at.ensures c.ne.ensures c.if-ne.false _ _ c.requires.is) _
+          c.first_element.ensures c.in-At.is) in
+          ends_past held_text c.args.run.now c.hold_string.new.run c.args.at
+          (characters_of b.head) b.stop (c.hold_string.ensures _ _ b.at) c.in_ok-past.was)).1;
     }
 
-pub returns-in_default-n : goal.returns-in_default-n
-returns-in_default-n c =
-    λ t e p. let b = (list_begun t p (is_kind is_list c.kind_at.ensures c.is_list.ensures c.if-not-is_list.false t e p) _
-    c.first_element-m.ensures c.in-At.is) in
-    let d = (let b = (list_begun t p (is_kind is_list c.kind_at.ensures c.is_list.ensures c.if-not-is_list.false t e p) _
-    c.first_element-m.ensures c.in-At.is) in
-    ends_past held_text c.args.run.now c.hold_string-h.new.run c.args.at
-    (characters_of b.head) b.stop (c.hold_string-h.ensures _ _ b.at) c.in-Past.is) in
+pub returns-in_default-next_element : goal.returns-in_default-next_element
+returns-in_default-next_element c =
+    λ t e p. let b = (list_begun t p (list_told c.kind_at.ensures c.ne.ensures c.if-ne.false t e p) _
+    c.first_element.ensures c.in-At.is) in
+    let d = (let b = (list_begun t p (list_told c.kind_at.ensures c.ne.ensures c.if-ne.false t e p) _
+    c.first_element.ensures c.in-At.is) in
+    ends_past held_text c.args.run.now c.hold_string.new.run c.args.at
+    (characters_of b.head) b.stop (c.hold_string.ensures _ _ b.at) c.in_ok-past.was) in
     record {
       size = d.0.extends.size;
-      said = begun_more b characters_of _ _ (c.next_element-n.ensures _ _ (begun_rest b d.1)) c.in_default-n.is;
+      said = begun_more b characters_of _ _ (c.next_element.ensures _ _ (begun_rest b d.1)) c.in_default-next_element.is;
     }
 
 pub returns : goal.returns
 returns c =
-    λ t e p. let b = (list_begun t p (is_kind is_list c.kind_at.ensures c.is_list.ensures c.if-not-is_list.false t e p) _
-    c.first_element-m.ensures c.in-At.is) in
-    let d = (let b = (list_begun t p (is_kind is_list c.kind_at.ensures c.is_list.ensures c.if-not-is_list.false t e p) _
-    c.first_element-m.ensures c.in-At.is) in
-    ends_past held_text c.args.run.now c.hold_string-h.new.run c.args.at
-    (characters_of b.head) b.stop (c.hold_string-h.ensures _ _ b.at) c.in-Past.is) in
-    let z = begun_sole b characters_of _ _ (c.next_element-n.ensures _ _ (begun_rest b d.1)) c.in-Past-n.is in (
+    λ t e p. let b = (list_begun t p (list_told c.kind_at.ensures c.ne.ensures c.if-ne.false t e p) _
+    c.first_element.ensures c.in-At.is) in
+    let d = (let b = (list_begun t p (list_told c.kind_at.ensures c.ne.ensures c.if-ne.false t e p) _
+    c.first_element.ensures c.in-At.is) in
+    ends_past held_text c.args.run.now c.hold_string.new.run c.args.at
+    (characters_of b.head) b.stop (c.hold_string.ensures _ _ b.at) c.in_ok-past.was) in
+    let z = begun_sole b characters_of _ _ (c.next_element.ensures _ _ (begun_rest b d.1)) c.in-Past.is in (
       record { thing = d.0.thing; said = z.0 ∙ d.0.said; extends = d.0.extends },
       z.1,
     )

@@ -1,5 +1,6 @@
 -- A context entry: what its members say of it, what room they have, and how it is held behind its type.
 --   context_in x y z   the entry that the members of the three words say
+use Rattle.std.specs.Prelude.{Option, Some, None}
 use mathlib.Core.Path.{◌≡◌, refl, sym, ap, ◌∙◌, subst}
 use mathlib.Core.Bool.{Bool, true, false}
 use mathlib.Core.Logic.{◌⊎◌, inl, inr}
@@ -18,14 +19,13 @@ use Rattle.held.specs.Held.{held_text, held_value, held_context}
 use Rattle.parts.specs.Slots.{words_of, word_at, Placed, Turn, Repeated, Slotted}
 use Rattle.parts.specs.Holding.{is_object, Extends, Laid, Holds}
 use Rattle.parts.specs.declared.members.Layout.TheVariants as L
-use Rattle.parts.specs.declared.holding.Held.{Held}
-use Rattle.parts.specs.declared.holding.Held.TheVariants.{Past, Wrong}
-use Rattle.parts.specs.Requests.{type_named, type_of, typed_as}
+use Rattle.parts.specs.Requests.{type_of, number_of_type, typed_as}
+use Rattle.parts.specs.declared.words.ValueType.{ValueType}
 use Rattle.parts.proofs.Laws.Holding.{never}
 use Rattle.parts.proofs.Laws.Extends.{extends_then, extends_front}
 use Rattle.parts.proofs.Laws.Formed.{then_wrong, then_read}
 use Rattle.parts.proofs.Laws.Fits.{then_inv}
-use Rattle.parts.proofs.Laws.Requests.Tests.{typed_is, typed_none, typed_kind, kind_one}
+use Rattle.parts.proofs.Laws.Requests.Tests.{typed_is, typed_none, typed_kind}
 use Rattle.parts.proofs.Laws.Requests.Sole.{the_one}
 use Rattle.parts.proofs.Laws.Requests.Objects.{AnObject, is_object_lem, object_stands}
 
@@ -102,7 +102,7 @@ module _ (x y z : Slot) where
   pub key_wrong : required key_name_of x ≡ wrong → context_in x y z ≡ wrong
   key_wrong e = then_wrong _ e
 
-  type_zero : (r : Reading (List ℕ)) (y : Slot) → type_of y ≡ 0
+  type_zero : (r : Reading (List ℕ)) (y : Slot) → type_of y ≡ None
       → then r (λ k. then (required (λ t. read t) y) (λ t. then (the_one z) (valued k t))) ≡ wrong
   type_zero wrong y e = refl
   type_zero (read k) none e = refl
@@ -113,55 +113,50 @@ module _ (x y z : Slot) where
       none_there wrong = refl
       none_there (read cs) = ap (λ v. then v (λ v. read (record { key = k; value = v }))) (typed_none t cs e)
 
-  pub type_wrong : type_of y ≡ 0 → context_in x y z ≡ wrong
+  pub type_wrong : type_of y ≡ None → context_in x y z ≡ wrong
   type_wrong e = type_zero (required key_name_of x) y e
 
-named_type : (k : List ℕ) (z y : Slot) → (type_of y ≡ 0 → ⊥)
+named_type : (k : List ℕ) (z y : Slot) (j : ValueType) → Some j ≡ type_of y
     → then (required (λ t. read t) y) (λ t. then (the_one z) (valued k t))
-    ≡ then (then (the_one z) (typed_as (type_of y))) (λ v. read (record { key = k; value = v }))
-named_type k z none h = absurd (h refl)
-named_type k z many h = absurd (h refl)
-named_type k z (one t) h = by (the_one z)
+    ≡ then (then (the_one z) (typed_as j)) (λ v. read (record { key = k; value = v }))
+named_type k z none j h = absurd (cc)
+named_type k z many j h = absurd (cc)
+named_type k z (one t) j h = by (the_one z)
   where
     by : (r : Reading (List ℕ)) → then r (valued k t)
-        ≡ then (then r (typed_as (type_named t))) (λ v. read (record { key = k; value = v }))
+        ≡ then (then r (typed_as j)) (λ v. read (record { key = k; value = v }))
     by wrong = refl
-    by (read cs) = ap (λ v. then v (λ v. read (record { key = k; value = v }))) (typed_is t cs h)
+    by (read cs) = ap (λ v. then v (λ v. read (record { key = k; value = v }))) (typed_is t cs j h)
 
 -- the key read, the entry is what the value of its type is
-pub context_typed : (x y z : Slot) (k : List ℕ) → required key_name_of x ≡ read k → (type_of y ≡ 0 → ⊥)
-    → context_in x y z ≡ then (then (the_one z) (typed_as (type_of y))) (λ v. read (record { key = k; value = v }))
-context_typed x y z k e h =
-    then_read (λ k. then (required (λ t. read t) y) (λ t. then (the_one z) (valued k t))) e ∙ named_type k z y h
+pub context_typed : (x y z : Slot) (k : List ℕ) (j : ValueType) → required key_name_of x ≡ read k → Some j ≡ type_of y
+    → context_in x y z ≡ then (then (the_one z) (typed_as j)) (λ v. read (record { key = k; value = v }))
+context_typed x y z k j e h =
+    then_read (λ k. then (required (λ t. read t) y) (λ t. then (the_one z) (valued k t))) e ∙ named_type k z y j h
 
 -- ---- in the run
 
 module _ {run run₁ : List ℕ} {at p : ℕ} (x y z : Slot) (d : Laid held_text run run₁ (at + 1) (required key_name_of x) p)
-    (low : at < length run) (k : ℕ) (is : k ≡ type_of y) (h : k ≡ 0 → ⊥) where
+    (low : at < length run) (k : ValueType) (is : Some k ≡ type_of y) (n : ℕ) (told : n ≡ number_of_type k) where
   said : context_in x y z ≡ then (then (the_one z) (typed_as k)) (λ v. read (record { key = d.thing; value = v }))
-  said =
-      context_typed x y z d.thing d.said (λ e. h (is ∙ e))
-      ∙ ap (λ (j : ℕ). then (then (the_one z) (typed_as j)) (λ v. read (record { key = d.thing; value = v }))) (sym is)
+  said = context_typed x y z d.thing k d.said is
 
-  kinds : (k ≡ 1) ⊎ (k ≡ 2)
-  kinds = subst (λ (j : ℕ). (j ≡ 1) ⊎ (j ≡ 2)) (sym is) (kind_one y (λ e. h (is ∙ e)))
-
-  pub context_held : (run₂ : List ℕ) (r : Held) → Holds held_value (set run₁ at k) run₂ p (then (the_one z) (typed_as k)) r
+  pub context_held : (run₂ : List ℕ) (r : Option ℕ) → Holds held_value (set run₁ at n) run₂ p (then (the_one z) (typed_as k)) r
       → Holds held_context run run₂ at (context_in x y z) r
   unfolding held_context
-  context_held run₂ (Past q) v =
+  context_held run₂ (Some q) v =
       let w = then_inv (the_one z) (typed_as k) v.said in
-      let kind = typed_kind k w.thing v.thing kinds w.next in
-      let key = extends_front k low d.extends in
+      let kind = told ∙ typed_kind k w.thing v.thing w.next in
+      let key = extends_front n low d.extends in
       let e = extends_then key v.extends in
       record {
         thing = record { key = d.thing; value = v.thing };
         said = said ∙ then_read _ v.said;
         extends = subst (λ (j : ℕ). Extends run run₂ at (j ∷ (held_text d.thing ++ held_value v.thing)) q) kind e;
       }
-  context_held run₂ Wrong v =
+  context_held run₂ None v =
       record {
-        size = v.size ∙ (extends_front k low d.extends).size;
+        size = v.size ∙ (extends_front n low d.extends).size;
         said = said ∙ then_wrong _ v.said;
       }
 

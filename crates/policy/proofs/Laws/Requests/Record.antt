@@ -1,5 +1,6 @@
 -- A record: what its members say of it, and how it is held.
 --   request_in x y z   the request that the members of the three words say
+use Rattle.std.specs.Prelude.{Option, Some, None}
 use mathlib.Core.Path.{◌≡◌, refl, sym, ap, ◌∙◌}
 use mathlib.Core.Bool.{Bool, true, false}
 use mathlib.Core.Logic.{◌⊎◌, inl, inr}
@@ -19,8 +20,6 @@ use Rattle.held.specs.Held.{held_text, held_list, held_context, held_request}
 use Rattle.parts.specs.Slots.{words_of, word_at, Placed, Turn, Repeated, Slotted}
 use Rattle.parts.specs.Holding.{is_object, Laid, Holds}
 use Rattle.parts.specs.declared.members.Layout.TheVariants as L
-use Rattle.parts.specs.declared.holding.Held.{Held}
-use Rattle.parts.specs.declared.holding.Held.TheVariants.{Past, Wrong}
 use Rattle.parts.proofs.Laws.Holding.{never}
 use Rattle.parts.proofs.Laws.Extends.{extends_then}
 use Rattle.parts.proofs.Laws.Formed.{then_wrong, then_read}
@@ -146,14 +145,14 @@ module _ {run run₁ run₂ : List ℕ} {p q : ℕ} (x y z : Slot) (a : Laid hel
       ∙ then_read (λ r. then (context_in z) (λ cs. read (record { action = a.thing; resource = r; context = cs })))
       b.said
 
-  pub request_held : (run₃ : List ℕ) (r : Held) → Holds (held_list held_context) run₂ run₃ q (context_in z) r
+  pub request_held : (run₃ : List ℕ) (r : Option ℕ) → Holds (held_list held_context) run₂ run₃ q (context_in z) r
       → Holds held_request run run₃ 0 (request_in x y z) r
   unfolding held_request
-  request_held run₃ (Past e) c =
+  request_held run₃ (Some e) c =
       record {
         thing = record { action = a.thing; resource = b.thing; context = c.thing };
         said = said ∙ then_read _ c.said;
         extends = extends_then a.extends (extends_then b.extends c.extends);
       }
-  request_held run₃ Wrong c =
+  request_held run₃ None c =
       record { size = c.size ∙ b.extends.size ∙ a.extends.size; said = said ∙ then_wrong _ c.said }

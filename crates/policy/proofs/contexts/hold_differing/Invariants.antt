@@ -9,7 +9,7 @@ use Rattle.policy.proofs.contexts.hold_differing.Given as goal
 
 abbrev pub invariant-loop-m : goal.invariant-loop-m
 invariant-loop-m l =
-    Apart held_context context_of context_fits same_context same_context_symmetric l.s l.v l.initial.run l.at l.run l.m l.p l.n
+    Apart held_context context_of context_fits same_context same_context_symmetric l.s l.v l.initial.run l.at l.run l.m l.past l.count
 
 abbrev pub decreases-loop-m : goal.decreases-loop-m
 decreases-loop-m l = element_left l.s l.m

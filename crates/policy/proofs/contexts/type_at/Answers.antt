@@ -1,27 +1,23 @@
--- An absent member names no type; one that is there is asked where it stands.
+-- An absent member names no type.
 use mathlib.Core.Path.{sym, ap, ◌∙◌, subst}
 use Rattle.parts.specs.Requests.{type_of, TypesTo}
-use Rattle.parts.specs.declared.words.Typed.TheVariants as T
 use Rattle.parts.proofs.Laws.Requests.Members.{placed_absent, placed_found}
 use Rattle.policy.proofs.contexts.type_at.Goals as goal
 
 pub returns-then-v-eq0 : goal.returns-then-v-eq0
 returns-then-v-eq0 c = λ x p. sym (ap type_of (placed_absent p c.if-v-eq0.true))
 
-pub type_at-k-requires : goal.type_at-k-requires
-type_at-k-requires c =
+pub type_at-requires : goal.type_at-requires
+type_at-requires c =
     let f = placed_found c.requires.is c.if-v-eq0.false in record { what = f.what; stop = f.stop; is = f.at }
 
-pub returns-in-Is : goal.returns-in-Is
-returns-in-Is c =
+pub returns-in_err-t : goal.returns-in_err-t
+returns-in_err-t c =
     λ x p. let f = placed_found p c.if-v-eq0.false in
-    let n : TypesTo f.what f.stop (T.Is c.in-Is.kind c.in-Is.end) =
-    subst (TypesTo f.what f.stop) c.in-Is.is (c.type_at-k.ensures _ _ f.at) in
-    n.is ∙ sym (ap type_of f.is)
+    c.from_residual.ensures
+    ∙ sym (ap type_of f.is ∙ subst (TypesTo f.what f.stop) c.in_err-t.was (c.type_at.ensures _ _ f.at))
 
-pub returns-in-Wrong : goal.returns-in-Wrong
-returns-in-Wrong c =
+pub returns : goal.returns
+returns c =
     λ x p. let f = placed_found p c.if-v-eq0.false in
-    let n : TypesTo f.what f.stop T.Wrong =
-    subst (TypesTo f.what f.stop) c.in-Wrong.is (c.type_at-k.ensures _ _ f.at) in
-    sym (ap type_of f.is ∙ n)
+    (subst (TypesTo f.what f.stop) c.in_ok-t.was (c.type_at.ensures _ _ f.at)).is ∙ sym (ap type_of f.is)

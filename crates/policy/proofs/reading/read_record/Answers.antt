@@ -24,5 +24,5 @@ returns-in_default c = c.judged_record.ensures
 
 pub returns : goal.returns
 returns c =
-    let t = text_past held_request request_of _ _ _ c.record-h.ensures c.in-Past.is in
+    let t = text_past held_request request_of _ _ _ c.record-h.ensures c.in-Some.is in
     record_known (omega (arith, c.if-s-gt-RECORD.false)) t.text t.laid

@@ -37,39 +37,39 @@ over_limit-requires c =
     record {
       thing = (holds_past held c.args.run.now _ _ _
           (c.hold_policy-h.ensures _ _ (root_stands c.requires c.root-v.ensures))
-          c.in-Past.is).thing;
+          c.in-Some.is).thing;
       lies = held_lies c.requires.lent.bounded
           (holds_past held c.args.run.now _ _ _
           (c.hold_policy-h.ensures _ _ (root_stands c.requires c.root-v.ensures))
-          c.in-Past.is);
+          c.in-Some.is);
     }
 
 pub shape_of-run-then-over_limit : goal.shape_of-run-then-over_limit
 shape_of-run-then-over_limit c =
     (holds_past held c.args.run.now _ _ _
     (c.hold_policy-h.ensures _ _ (root_stands c.requires c.root-v.ensures))
-    c.in-Past.is).extends.size
+    c.in-Some.is).extends.size
 
 pub returns-then-over_limit : goal.returns-then-over_limit
 returns-then-over_limit c =
     policy_over c.requires.short (whole_text c.requires) _ (holds_past held c.args.run.now _ _ _
     (c.hold_policy-h.ensures _ _ (root_stands c.requires c.root-v.ensures))
-    c.in-Past.is).said (sym (c.over_limit.ensures _
+    c.in-Some.is).said (sym (c.over_limit.ensures _
     (held_lies c.requires.lent.bounded (holds_past held c.args.run.now _ _ _
     (c.hold_policy-h.ensures _ _ (root_stands c.requires c.root-v.ensures))
-    c.in-Past.is))) ∙ c.if-over_limit.true)
+    c.in-Some.is))) ∙ c.if-over_limit.true)
 
 pub shape_of-run : goal.shape_of-run
 shape_of-run c =
     (holds_past held c.args.run.now _ _ _
     (c.hold_policy-h.ensures _ _ (root_stands c.requires c.root-v.ensures))
-    c.in-Past.is).extends.size
+    c.in-Some.is).extends.size
 
 pub returns : goal.returns
 returns c =
     policy_known c.requires.short (whole_text c.requires) (holds_past held c.args.run.now _ _ _
     (c.hold_policy-h.ensures _ _ (root_stands c.requires c.root-v.ensures))
-    c.in-Past.is) (sym (c.over_limit.ensures _
+    c.in-Some.is) (sym (c.over_limit.ensures _
     (held_lies c.requires.lent.bounded (holds_past held c.args.run.now _ _ _
     (c.hold_policy-h.ensures _ _ (root_stands c.requires c.root-v.ensures))
-    c.in-Past.is))) ∙ c.if-over_limit.false)
+    c.in-Some.is))) ∙ c.if-over_limit.false)

@@ -46,7 +46,7 @@ shape_of-run c = (holds_past held_request
     (c.hold_request-h.ensures _ _
     (root_stands c.requires
     c.root-v.ensures))
-    c.in-Past.is).extends.size
+    c.in-Some.is).extends.size
 
 pub returns : goal.returns
 returns c = record_known c.requires.short (whole_text c.requires)
@@ -55,4 +55,4 @@ returns c = record_known c.requires.short (whole_text c.requires)
     (c.hold_request-h.ensures _ _
     (root_stands c.requires
     c.root-v.ensures))
-    c.in-Past.is)
+    c.in-Some.is)

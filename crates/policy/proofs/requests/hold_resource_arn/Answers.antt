@@ -13,6 +13,7 @@ use Rattle.parts.proofs.Laws.Formed.{then_wrong}
 use Rattle.parts.proofs.Laws.Requests.Members.{placed_absent, refused}
 use Rattle.parts.proofs.Laws.Requests.Sole.{the_one, resource_said}
 use Rattle.parts.proofs.Laws.Requests.Laying.{extends_two}
+use Rattle.parts.proofs.Laws.Formed.{none_holds}
 use Rattle.policy.proofs.requests.hold_resource_arn.Goals as goal
 
 pub overflow_add-first : goal.overflow_add-first
@@ -38,8 +39,8 @@ returns-then-v-eq0 c =
       extends = extends_two c.args.run.now c.args.at 1 42 (omega (arith, c.requires.roomy.room));
     }
 
-pub hold_only-h-requires : goal.hold_only-h-requires
-hold_only-h-requires c =
+pub hold_only-requires : goal.hold_only-requires
+hold_only-requires c =
     record {
       what = c.requires.what;
       is = c.requires.is;
@@ -47,37 +48,39 @@ hold_only-h-requires c =
           (omega arith);
     }
 
-pub returns-in_default : goal.returns-in_default
-returns-in_default c =
-    λ x p. refused held_text _ _ c.args.at (the_one x) _ (c.hold_only-h.ensures x p)
-    c.in_default.is
-    (λ e. resource_said p c.if-v-eq0.false ∙ then_wrong _ e)
+pub returns-in_err-past : goal.returns-in_err-past
+returns-in_err-past c =
+    λ x p.
+    none_holds held_text c.args.run.now _ c.args.at (optional (42 ∷ []) (only_one resource_arn_of) x) c.from_residual.ensures
+    (refused held_text _ _ c.args.at (the_one x) _ (c.hold_only.ensures x p)
+    c.in_err-past.was
+    (λ e. resource_said p c.if-v-eq0.false ∙ then_wrong _ e))
 
 pub slice_bounds-is_resource_arn-count : goal.slice_bounds-is_resource_arn-count
 slice_bounds-is_resource_arn-count c =
     past_first (omega (arith, c.requires.roomy.room)) (holds_past held_text c.args.run.now
-    c.hold_only-h.new.run c.args.at
-    (the_one c.requires.what) (c.hold_only-h.ensures c.requires.what c.requires.is)
-    c.in-Past.is)
+    c.hold_only.new.run c.args.at
+    (the_one c.requires.what) (c.hold_only.ensures c.requires.what c.requires.is)
+    c.in_ok-past.was)
 
 pub slice_bounds-is_resource_arn-start : goal.slice_bounds-is_resource_arn-start
 slice_bounds-is_resource_arn-start c =
     past_first (omega (arith, c.requires.roomy.room)) (holds_past held_text c.args.run.now
-    c.hold_only-h.new.run c.args.at
-    (the_one c.requires.what) (c.hold_only-h.ensures c.requires.what c.requires.is)
-    c.in-Past.is)
+    c.hold_only.new.run c.args.at
+    (the_one c.requires.what) (c.hold_only.ensures c.requires.what c.requires.is)
+    c.in_ok-past.was)
 
 pub slice_bounds-is_resource_arn-end : goal.slice_bounds-is_resource_arn-end
 slice_bounds-is_resource_arn-end c =
     past_within (omega (arith, c.requires.roomy.room)) (holds_past held_text c.args.run.now
-    c.hold_only-h.new.run c.args.at
-    (the_one c.requires.what) (c.hold_only-h.ensures c.requires.what c.requires.is)
-    c.in-Past.is)
+    c.hold_only.new.run c.args.at
+    (the_one c.requires.what) (c.hold_only.ensures c.requires.what c.requires.is)
+    c.in_ok-past.was)
 
 pub returns-then-not-is_resource_arn : goal.returns-then-not-is_resource_arn
 returns-then-not-is_resource_arn c =
-    λ x p. let d = holds_past held_text c.args.run.now c.hold_only-h.new.run
-    c.args.at (the_one x) (c.hold_only-h.ensures x p) c.in-Past.is in
+    λ x p. let d = holds_past held_text c.args.run.now c.hold_only.new.run
+    c.args.at (the_one x) (c.hold_only.ensures x p) c.in_ok-past.was in
     let n = part_told (omega (arith, c.requires.roomy.room)) d is_resource_arn c.is_resource_arn.ensures
     c.if-not-is_resource_arn.true in
     record {
@@ -88,8 +91,8 @@ returns-then-not-is_resource_arn c =
 
 pub returns : goal.returns
 returns c =
-    λ x p. let d = holds_past held_text c.args.run.now c.hold_only-h.new.run
-    c.args.at (the_one x) (c.hold_only-h.ensures x p) c.in-Past.is in
+    λ x p. let d = holds_past held_text c.args.run.now c.hold_only.new.run
+    c.args.at (the_one x) (c.hold_only.ensures x p) c.in_ok-past.was in
     let n = part_told (omega (arith, c.requires.roomy.room)) d is_resource_arn c.is_resource_arn.ensures
     c.if-not-is_resource_arn.false in
     record {

@@ -5,7 +5,7 @@ use Rattle.policy.proofs.Laws.Rows.{Apart}
 use Rattle.policy.proofs.rows.hold_rows.Given as goal
 
 abbrev pub invariant-loop-m : goal.invariant-loop-m
-invariant-loop-m l = Apart (operator_is l.o) l.s l.v l.initial.run l.at l.run l.m l.p l.n
+invariant-loop-m l = Apart (operator_is l.o) l.s l.v l.initial.run l.at l.run l.m l.past l.count
 
 abbrev pub decreases-loop-m : goal.decreases-loop-m
 decreases-loop-m l = left_of l.s l.m

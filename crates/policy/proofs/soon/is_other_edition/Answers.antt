@@ -3,9 +3,9 @@ use Rattle.straight.specs.Marks.{all_bare}
 use borrow.Author.Rules.{rules}
 use Rattle.policy.proofs.soon.is_other_edition.Goals as goal
 
-pub named-v-requires : goal.named-v-requires
+pub named-requires : goal.named-requires
 unfolding all_bare
-named-v-requires c = search rules
+named-requires c = search rules
 
 pub quote-requires : goal.quote-requires
 unfolding all_bare

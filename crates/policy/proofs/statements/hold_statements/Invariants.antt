@@ -9,7 +9,7 @@ use Rattle.policy.proofs.statements.hold_statements.Given as goal
 
 abbrev pub invariant-loop-m : goal.invariant-loop-m
 invariant-loop-m l =
-    Apart held_statement statement_of statement_fits same_sid same_sid_symmetric l.s l.v l.initial.run l.at l.run l.m l.p l.n
+    Apart held_statement statement_of statement_fits same_sid same_sid_symmetric l.s l.v l.initial.run l.at l.run l.m l.past l.count
 
 abbrev pub decreases-loop-m : goal.decreases-loop-m
 decreases-loop-m l = element_left l.s l.m

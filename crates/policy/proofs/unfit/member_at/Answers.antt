@@ -1,10 +1,11 @@
 -- The member's value has room, and what is told of it is told of the first of whatever members stand there.
-use mathlib.Core.Path.{refl, subst}
+use mathlib.Core.Path.{refl, sym, subst}
 use Prim.Native.Nat.{ℕ}
 use native.Mathlib.Omega.{arith}
-use Rattle.parts.specs.Unfit.{UnfitAs}
+use Rattle.parts.specs.Unfit.{UnfitAs, unknown}
 use Rattle.parts.proofs.Laws.Holding.{never}
 use Rattle.policy.proofs.Laws.Unfit.{leader, value_holdable, member_bad}
+use Rattle.parts.proofs.Laws.Slots.{turn_some, turn_none}
 use Rattle.policy.proofs.unfit.member_at.Goals as goal
 
 pub entry-m-requires : goal.entry-m-requires
@@ -29,10 +30,17 @@ pub is_unfit-requires : goal.is_unfit-requires
 is_unfit-requires c =
     value_holdable c.requires.0 c.entry-m.result (c.entry-m.ensures _ _ c.requires.0.is) c.in-Named.is c.requires.1.0 c.requires.1.1
 
-pub returns : goal.returns
-returns c =
+pub returns-in-Some : goal.returns-in-Some
+returns-in-Some c =
     let l = leader c.requires.0 c.entry-m.result (c.entry-m.ensures _ _ c.requires.0.is) c.in-Named.is in (
       c.is_unfit.ensures.0,
       λ z. member_bad c.requires.0 c.entry-m.result (c.entry-m.ensures _ _ c.requires.0.is) c.in-Named.is
-          (subst (λ (k : ℕ). UnfitAs k l.head) c.which-k.ensures (c.is_unfit.ensures.1 z _ _ l.stands)),
+          (subst (λ (k : ℕ). UnfitAs k l.head) (turn_some _ c.which.ensures c.in-Some.is).0 (c.is_unfit.ensures.1 z _ _ l.stands)),
     )
+
+pub returns-in-None : goal.returns-in-None
+returns-in-None c = (
+  refl,
+  λ z. member_bad c.requires.0 c.entry-m.result (c.entry-m.ensures _ _ c.requires.0.is) c.in-Named.is
+      (unknown (sym (turn_none _ c.which.ensures c.in-None.is))),
+)

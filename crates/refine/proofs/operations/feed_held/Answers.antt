@@ -4,6 +4,7 @@ use mathlib.Core.Path.{◌≡◌, sym, ◌∙◌}
 use mathlib.Core.Bool.{Bool, true}
 use mathlib.Core.List.{List}
 use Prim.Native.Nat.{ℕ}
+use borrow.Author.Rules.{rules}
 use Rattle.syntax.specs.Policy.{Policy}
 use Rattle.held.specs.Held.{held}
 use Rattle.held.specs.Lying.{Lies}
@@ -25,12 +26,6 @@ returns-then-not-holds_room c =
     λ p l s. no_content
     (sym (c.holds_room.ensures p l s) ∙ c.if-not-holds_room.true)
 
-pub feed_holding-requires : goal.feed_holding-requires
-feed_holding-requires c =
-    holding c.requires.0 c.requires.1 c.holds_room.ensures
-    c.if-not-holds_room.false
-
-pub returns : goal.returns
-returns c =
-    let told = c.if-not-holds_room.false in
-    λ p l s. c.feed_holding.ensures p l s (sym (c.holds_room.ensures p l s) ∙ told)
+pub with_request-requires : goal.with_request-requires
+with_request-requires c =
+    let h = holding c.requires.0 c.requires.1 c.holds_room.ensures c.if-not-holds_room.false in search rules

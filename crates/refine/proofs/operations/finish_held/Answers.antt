@@ -2,7 +2,6 @@
 use mathlib.Core.Path.{sym, ◌∙◌}
 use native.Mathlib.Omega.{arith}
 use borrow.Author.Tests.{not-true}
-use Rattle.writing.proofs.Laws.Showing.{shows_none}
 use Rattle.refine.specs.Sound.{no_content, no_allow, finishes}
 use Rattle.refine.proofs.Laws.Keepable.{policy_writ, values_enough}
 use mathlib.Core.Path.{ap}
@@ -30,8 +29,8 @@ returns-then-not-some_allowed c =
     let told = c.if-not-holds_room.false in
     λ p l s. no_allow (sym (c.holds_room.ensures p l s) ∙ told) (sym (c.some_allowed.ensures p l) ∙ c.if-not-some_allowed.true)
 
-pub put_refined-n-requires : goal.put_refined-n-requires
-put_refined-n-requires c =
+pub put_refined-requires : goal.put_refined-requires
+put_refined-requires c =
     let told = c.if-not-holds_room.false in
     let fits = sym (c.holds_room.ensures c.requires.0.policy c.requires.0.lies c.requires.0.sound) ∙ told in
     record {
@@ -41,6 +40,13 @@ put_refined-n-requires c =
       writ = policy_writ c.requires.0.policy c.args.room.now c.requires.0.sound c.requires.1 fits;
     }
 
+pub deliver-requires : goal.deliver-requires
+deliver-requires c =
+    let told = c.if-not-holds_room.false in
+    let fits = sym (c.holds_room.ensures c.requires.0.policy c.requires.0.lies c.requires.0.sound) ∙ told in
+    let writ = policy_writ c.requires.0.policy c.args.room.now c.requires.0.sound c.requires.1 fits in
+    omega (arith, (c.put_refined.ensures c.requires.0.policy c.requires.0.lies writ).size, c.new-sink.ensures.0)
+
 pub returns : goal.returns
 returns c =
     let told = c.if-not-holds_room.false in
@@ -48,5 +54,5 @@ returns c =
     λ p l s.
     let f = sym (c.holds_room.ensures p l s) ∙ told in
     finishes f (sym (c.some_allowed.ensures p l) ∙ allows) (c.deliver.ensures _
-    ((c.put_refined-n.ensures p l (policy_writ p c.args.room.now s c.requires.1 f)).adds _
-    (shows_none _ (omega arith))))
+    ((c.put_refined.ensures p l (policy_writ p c.args.room.now s c.requires.1 f)).adds _
+    c.new-sink.ensures.1))

@@ -2,25 +2,27 @@
 use native.Mathlib.Omega.{arith}
 use Rattle.held.specs.Held.{held}
 use Rattle.policy.specs.Reading.{policy_rules}
-use Rattle.decide.proofs.Laws.Operations.{answers_held, answers_refused, knows_lies}
+use Rattle.decide.proofs.Laws.Operations.{handed_on, knows_lies}
 use Rattle.refine.specs.Operations.{no_policy}
 use Rattle.refine.proofs.Laws.Held.{sound_read, finishes_behind}
 use Rattle.refine.proofs.operations.finish_lent.Goals as goal
 
-pub read_policy-h-requires : goal.read_policy-h-requires
-read_policy-h-requires c = c.requires.0
+pub read_policy-requires : goal.read_policy-requires
+read_policy-requires c = c.requires.0
+
+pub returns-in_err-read_policy : goal.returns-in_err-read_policy
+returns-in_err-read_policy c = rw (handed_on _ c.from_residual.ensures.1) (no_policy c.requires.1 c.in_err-read_policy.ensures)
 
 pub finish_held-requires : goal.finish_held-requires
 finish_held-requires c =
-    let known = answers_held policy_rules held _ _ c.read_policy-h.ensures c.in-Held.is in
-    let lies = knows_lies policy_rules held _ _ (omega (arith, c.requires.0.bounded, c.read_policy-h.auto.run)) known in
+    let known = c.in_ok-read_policy.ensures in
+    let short = c.requires.0.bounded in
+    let lies = knows_lies policy_rules held _ _ (omega arith) known in
     (record { policy = known.thing; lies = lies; sound = sound_read known.says }, c.requires.1)
 
-pub returns-in-Held : goal.returns-in-Held
-returns-in-Held c =
-    let known = answers_held policy_rules held _ _ c.read_policy-h.ensures c.in-Held.is in
-    let lies = knows_lies policy_rules held _ _ (omega (arith, c.requires.0.bounded, c.read_policy-h.auto.run)) known in
+pub returns : goal.returns
+returns c =
+    let known = c.in_ok-read_policy.ensures in
+    let short = c.requires.0.bounded in
+    let lies = knows_lies policy_rules held _ _ (omega arith) known in
     finishes_behind known.says c.requires.1 (c.finish_held.ensures known.thing lies (sound_read known.says))
-
-pub returns-in-Refused : goal.returns-in-Refused
-returns-in-Refused c = no_policy c.requires.1 (answers_refused policy_rules held _ _ c.read_policy-h.ensures c.in-Refused.is)

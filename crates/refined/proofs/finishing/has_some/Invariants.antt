@@ -1,10 +1,6 @@
 -- Each turn passes one empty row.
-use Prim.Native.Nat.{◌-◌}
 use Rattle.refined.proofs.Laws.KeepingTests.{Seeking}
 use Rattle.refined.proofs.finishing.has_some.Given as goal
 
 abbrev pub invariant-loop-i : goal.invariant-loop-i
 invariant-loop-i l = Seeking l.room l.s l.n l.i l.j
-
-abbrev pub decreases-loop-i : goal.decreases-loop-i
-decreases-loop-i l = l.n - l.i

@@ -10,41 +10,34 @@ use Rattle.refined.proofs.finishing.put_kept.Goals as goal
 pub bounds-row-0 : goal.bounds-row-0
 bounds-row-0 c = omega (arith, held_size c.requires)
 
-pub returns-then-row-eq-ITSELF : goal.returns-then-row-eq-ITSELF
-returns-then-row-eq-ITSELF c =
-    λ y. adds_as (ap (entry_bytes _) (sym (held_itself y c.if-row-eq-ITSELF.true)))
+pub returns-in-1 : goal.returns-in-1
+returns-in-1 c =
+    λ y. adds_as (ap (entry_bytes _) (sym (held_itself y c.in-1.is)))
     (c.put_entry.ensures y.entry y.lies)
 
-pub bounds-row-0-2 : goal.bounds-row-0-2
-bounds-row-0-2 c = omega (arith, held_size c.requires)
+pub put_entry-requires-in-2 : goal.put_entry-requires-in-2
+put_entry-requires-in-2 c =
+    let t = held_text_lem c.requires c.in-2.is in record { thing = text t.characters; lies = t.lies }
 
-pub put_entry-requires-then-row-eq-SINGLE : goal.put_entry-requires-then-row-eq-SINGLE
-put_entry-requires-then-row-eq-SINGLE c =
-    let t = held_text_lem c.requires c.if-row-eq-SINGLE.true in record { thing = text t.characters; lies = t.lies }
-
-pub returns-then-row-eq-SINGLE : goal.returns-then-row-eq-SINGLE
-returns-then-row-eq-SINGLE c =
-    λ y. let t = held_text_lem y c.if-row-eq-SINGLE.true in
-    adds_as (ap (entry_bytes _) (sym t.is)) (c.put_entry-then-row-eq-SINGLE.ensures (text t.characters) t.lies)
-
-pub bounds-row-0-3 : goal.bounds-row-0-3
-bounds-row-0-3 c =
-    omega (arith, held_size c.requires)
+pub returns-in-2 : goal.returns-in-2
+returns-in-2 c =
+    λ y. let t = held_text_lem y c.in-2.is in
+    adds_as (ap (entry_bytes _) (sym t.is)) (c.put_entry-in-2.ensures (text t.characters) t.lies)
 
 pub put_beginning-requires : goal.put_beginning-requires
 put_beginning-requires c =
-    (held_begun c.requires c.if-row-eq-BEGINNING.true).begun
+    (held_begun c.requires c.in-3.is).begun
 
-pub returns-then-row-eq-BEGINNING : goal.returns-then-row-eq-BEGINNING
-returns-then-row-eq-BEGINNING c =
-    λ y. let t = held_begun y c.if-row-eq-BEGINNING.true in
+pub returns-in-3 : goal.returns-in-3
+returns-in-3 c =
+    λ y. let t = held_begun y c.in-3.is in
     adds_as (ap (entry_bytes _) (sym t.is)) (c.put_beginning.ensures t.begun)
 
 pub put_bound-requires : goal.put_bound-requires
 put_bound-requires c =
-    (held_bound c.requires c.if-row-eq-ITSELF.false c.if-row-eq-SINGLE.false c.if-row-eq-BEGINNING.false).bound
+    (held_bound c.requires (λ z. omega arith) (λ z. omega arith) (λ z. omega arith)).bound
 
-pub returns : goal.returns
-returns c =
-    λ y. let t = held_bound y c.if-row-eq-ITSELF.false c.if-row-eq-SINGLE.false c.if-row-eq-BEGINNING.false in
+pub returns-in_default : goal.returns-in_default
+returns-in_default c =
+    λ y. let t = held_bound y (λ z. omega arith) (λ z. omega arith) (λ z. omega arith) in
     adds_as (ap (entry_bytes _) (sym t.is)) (c.put_bound.ensures t.bound)

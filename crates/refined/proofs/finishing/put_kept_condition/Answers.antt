@@ -19,5 +19,5 @@ pub returns : goal.returns
 returns c =
     λ y. adds_as (condition_some (kept_rows y.thing _)
     (λ e. c.if-run-at-eq0.false (lies_first y.lies ∙ sym (kept_rows_many y.thing _) ∙ e)))
-    (adds_then c.put_bytes-open.ensures
-    (adds_then (c.put_kept_rows-rows.ensures y) c.put_bytes.ensures))
+    (adds_then c.put_bytes.ensures
+    (adds_then (c.put_kept_rows.ensures y) c.put_bytes-2.ensures))

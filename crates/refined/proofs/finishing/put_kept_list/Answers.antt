@@ -1,5 +1,5 @@
 -- Each turn passes one entry and its row, and puts it behind those before it where the row holds something.
-use mathlib.Core.Path.{refl, ◌∙◌}
+use mathlib.Core.Path.{refl}
 use native.Mathlib.Omega.{arith}
 use Rattle.held.proofs.Laws.Runs.{lies_inside}
 use Rattle.writing.specs.Bytes.{listed, list_bytes}
@@ -12,9 +12,6 @@ use Rattle.refined.proofs.finishing.put_kept_list.Goals as goal
 
 pub bounds-run-at : goal.bounds-run-at
 bounds-run-at c = lies_inside c.requires.lies
-
-pub overflow_cast-n : goal.overflow_cast-n
-overflow_cast-n c = omega (arith, c.shared_slice_known-3-1.given c.args.at)
 
 pub overflow_add-e : goal.overflow_add-e
 overflow_add-e c =
@@ -42,8 +39,8 @@ pub slice_bounds-put_next-end : goal.slice_bounds-put_next-end
 slice_bounds-put_next-end c =
     waiting_ends (kept_turn c.requires c.loop-i.invariant c.loop-i-test.true).known
 
-pub put_next-r-requires : goal.put_next-r-requires
-put_next-r-requires c =
+pub put_next-k-requires : goal.put_next-k-requires
+put_next-k-requires c =
     let y = kept_turn c.requires c.loop-i.invariant c.loop-i-test.true in
     (record { entry = y.head; lies = y.lies; writ = waiting_writ y.known }, waiting_few y.known)
 
@@ -55,23 +52,15 @@ pub overflow_add-j : goal.overflow_add-j
 overflow_add-j c =
     omega (arith, waiting_ends (kept_turn c.requires c.loop-i.invariant c.loop-i-test.true).known)
 
-pub overflow_add-i : goal.overflow_add-i
-overflow_add-i c =
-    omega (arith, c.loop-i-test.true, c.shared_slice_known-3-1.given c.args.at)
-
 pub loop-i-preserved : goal.loop-i-preserved
 loop-i-preserved c =
-    λ xs k l u. telling_next (c.loop-i.invariant xs k l u) c.loop-i-test.true _ _ _ _
+    λ xs k l u. telling_next (c.loop-i.invariant xs k l u) c.loop-i-test.true _ _ _
     (λ x ys m v. kept_piece v c.args.kind (c.loop-i.invariant xs k l u) (c.past_value-e.ensures x m)
-    (c.put_next-r.ensures (record { entry = x; lies = m; writ = waiting_writ v })))
-
-pub shape_of-out : goal.shape_of-out
-shape_of-out c =
-    c.put.ensures.size ∙ (kept_told c.requires c.loop-i.invariant).adds.size ∙ c.put-next.ensures.size
+    (c.put_next-k.ensures (record { entry = x; lies = m; writ = waiting_writ v })))
 
 pub returns : goal.returns
 unfolding list_bytes listed kept
 returns c =
-    λ y. adds_then c.put-next.ensures
+    λ y. adds_then c.put.ensures
     (adds_then (telling_end (kept_told y c.loop-i.invariant) c.loop-i-test.false refl)
-    c.put.ensures)
+    c.put-2.ensures)

@@ -23,7 +23,7 @@ put_kept_list-requires c =
 pub returns : goal.returns
 returns c =
     λ y. row_adds (kept_row y.thing _) (row_operator y.thing y.lies)
-    (c.put_key-named.ensures y.thing y.lies)
+    (c.put_key.ensures y.thing y.lies)
     (c.put_kept_list.ensures (record {
       thing = y.thing.entries;
       lies = entries_lie y.thing y.lies c.behind_label-at.ensures;

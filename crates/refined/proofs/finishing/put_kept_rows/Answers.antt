@@ -14,9 +14,6 @@ use Rattle.refined.proofs.finishing.put_kept_rows.Goals as goal
 pub bounds-run-at : goal.bounds-run-at
 bounds-run-at c = lies_inside c.requires.lies
 
-pub overflow_cast-n : goal.overflow_cast-n
-overflow_cast-n c = omega (arith, c.shared_slice_known-3-1.given c.args.at)
-
 pub overflow_add-p : goal.overflow_add-p
 overflow_add-p c =
     omega (arith, lies_inside c.requires.lies, c.requires.lies.bounded)
@@ -34,8 +31,8 @@ bounds-run-p c =
     let y = rows_turn c.requires c.loop-i.invariant c.loop-i-test.true in row_inside y.head
     y.lies
 
-pub put_kept_row-next-requires : goal.put_kept_row-next-requires
-put_kept_row-next-requires c =
+pub put_kept_row-requires : goal.put_kept_row-requires
+put_kept_row-requires c =
     let y = rows_turn c.requires c.loop-i.invariant c.loop-i-test.true in record
     { thing = y.head; lies = y.lies; ready = row_ready y.known }
 
@@ -58,20 +55,12 @@ overflow_add-a c =
     let y = rows_turn c.requires c.loop-i.invariant c.loop-i-test.true in omega
     (arith, row_few y.known (c.row-r.ensures y.head y.lies).many)
 
-pub overflow_add-i : goal.overflow_add-i
-overflow_add-i c =
-    omega (arith, c.loop-i-test.true, c.shared_slice_known-3-1.given c.args.at)
-
 pub loop-i-preserved : goal.loop-i-preserved
 loop-i-preserved c =
-    λ xs k l u. telling_next (c.loop-i.invariant xs k l u) c.loop-i-test.true _ _ _ _
+    λ xs k l u. telling_next (c.loop-i.invariant xs k l u) c.loop-i-test.true _ _ _
     (λ x ys m v. kept_row_piece v (c.loop-i.invariant xs k l u) (c.row-r.ensures x m).past (row_operator x m)
-    (c.row-r.ensures x m).many c.put_turning-before.ensures
-    (c.put_kept_row-next.ensures (record { thing = x; lies = m; ready = row_ready v })))
-
-pub shape_of-out : goal.shape_of-out
-shape_of-out c =
-    (rows_told c.requires c.loop-i.invariant).adds.size
+    (c.row-r.ensures x m).many c.put_turning.ensures
+    (c.put_kept_row.ensures (record { thing = x; lies = m; ready = row_ready v })))
 
 pub returns : goal.returns
 unfolding rows_from kept_rows

@@ -8,8 +8,8 @@ pub behind_label-a-requires : goal.behind_label-a-requires
 behind_label-a-requires c =
     statement_lying (record { thing = c.requires.thing; lies = c.requires.lies })
 
-pub put_kept_list-actions-requires : goal.put_kept_list-actions-requires
-put_kept_list-actions-requires c =
+pub put_kept_list-requires : goal.put_kept_list-requires
+put_kept_list-requires c =
     actions_kept c.requires c.behind_label-a.ensures
 
 pub list-l-requires : goal.list-l-requires
@@ -25,8 +25,8 @@ overflow_add-t c =
           c.list-l.ensures).ready.enough,
     )
 
-pub put_kept_list-resources-requires : goal.put_kept_list-resources-requires
-put_kept_list-resources-requires c =
+pub put_kept_list-requires-2 : goal.put_kept_list-requires-2
+put_kept_list-requires-2 c =
     resources_kept c.requires c.behind_label-a.ensures c.list-l.ensures
 
 pub list-m-requires : goal.list-m-requires
@@ -44,14 +44,14 @@ overflow_add-t-2 c =
           c.list-m.ensures).ready.enough,
     )
 
-pub put_kept_condition-condition-requires : goal.put_kept_condition-condition-requires
-put_kept_condition-condition-requires c =
+pub put_kept_condition-requires : goal.put_kept_condition-requires
+put_kept_condition-requires c =
     rows_kept c.requires c.behind_label-a.ensures c.list-l.ensures c.list-m.ensures
 
 pub returns : goal.returns
 returns c =
     λ y.
-    statement_adds y c.behind_label-a.ensures c.list-l.ensures c.list-m.ensures (c.put_head-action.ensures y.thing y.lies)
-    (c.put_kept_list-actions.ensures (actions_kept y c.behind_label-a.ensures)) c.put_bytes-resource.ensures
-    (c.put_kept_list-resources.ensures (resources_kept y c.behind_label-a.ensures c.list-l.ensures))
-    (c.put_kept_condition-condition.ensures (rows_kept y c.behind_label-a.ensures c.list-l.ensures c.list-m.ensures)) c.put.ensures
+    statement_adds y c.behind_label-a.ensures c.list-l.ensures c.list-m.ensures (c.put_head.ensures y.thing y.lies)
+    (c.put_kept_list.ensures (actions_kept y c.behind_label-a.ensures)) c.put_bytes.ensures
+    (c.put_kept_list-2.ensures (resources_kept y c.behind_label-a.ensures c.list-l.ensures))
+    (c.put_kept_condition.ensures (rows_kept y c.behind_label-a.ensures c.list-l.ensures c.list-m.ensures)) c.put.ensures

@@ -13,4 +13,4 @@ pub returns : goal.returns
 returns c =
     λ y. reach_one statement_bytes
     (left_one y.thing _ (c.is_left.ensures y.thing y.lies) c.if-not-is_left.false)
-    c.put_between-before.ensures (c.put_left-next.ensures y)
+    c.put_between.ensures (c.put_left.ensures y)

@@ -1,5 +1,4 @@
 -- Each turn passes one statement and its rows, and puts it behind those before it where it is left.
-use Prim.Native.Nat.{◌-◌}
 use Rattle.held.specs.Held.{held_statement}
 use Rattle.writing.proofs.Laws.Telling.{Tellings}
 use Rattle.refined.proofs.Laws.KeepingPolicy.{tell_left, PolicyReady, Counts}
@@ -7,8 +6,5 @@ use Rattle.refined.proofs.finishing.put_refined.Given as goal
 
 abbrev pub invariant-loop-i : goal.invariant-loop-i
 invariant-loop-i l =
-    (Tellings held_statement (tell_left l.room) (PolicyReady l.room) (0, 0) l.run 1 l.initial.out l.initial.next l.n l.i l.p (l.k, l.s) l.out l.next)
+    (Tellings held_statement (tell_left l.room) (PolicyReady l.room) (0, 0) l.run 1 l.initial.sink l.n l.i l.p (l.k, l.s) l.sink)
     × (Counts l.run l.room l.n l.i l.p l.s)
-
-abbrev pub decreases-loop-i : goal.decreases-loop-i
-decreases-loop-i l = l.n - l.i

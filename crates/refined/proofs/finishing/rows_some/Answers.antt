@@ -10,9 +10,6 @@ use Rattle.refined.proofs.finishing.rows_some.Goals as goal
 pub bounds-run-at : goal.bounds-run-at
 bounds-run-at c = lies_inside c.requires.lies
 
-pub overflow_cast-n : goal.overflow_cast-n
-overflow_cast-n c = omega (arith, c.shared_slice_known-3-1.given c.args.at)
-
 pub overflow_add-p : goal.overflow_add-p
 overflow_add-p c =
     omega (arith, lies_inside c.requires.lies, c.requires.lies.bounded)
@@ -41,10 +38,6 @@ overflow_add-a c =
     let y = sight (list_looked c.requires.thing c.requires.lies c.loop-i.invariant) c.requires.enough
     c.loop-i-test.true in
     omega (arith, y.enough, rows_count y.head y.tail (c.row-r.ensures y.head y.lies).many)
-
-pub overflow_add-i : goal.overflow_add-i
-overflow_add-i c =
-    omega (arith, c.loop-i-test.true, c.shared_slice_known-3-1.given c.args.at)
 
 pub loop-i-preserved : goal.loop-i-preserved
 loop-i-preserved c =

@@ -15,9 +15,6 @@ pub bounds-run-0 : goal.bounds-run-0
 bounds-run-0 c =
     lies_inside (policy_lies c.requires.thing c.requires.lies)
 
-pub overflow_cast-n : goal.overflow_cast-n
-overflow_cast-n c = omega (arith, c.shared_slice_known-3-1.given 0)
-
 pub loop-i-init : goal.loop-i-init
 loop-i-init c = λ xs k l. looking_start xs k l
 
@@ -51,10 +48,6 @@ overflow_add-s c =
       policy_count y.head y.tail
           (c.statement-q.ensures y.head y.lies).many,
     )
-
-pub overflow_add-i : goal.overflow_add-i
-overflow_add-i c =
-    omega (arith, c.loop-i-test.true, c.shared_slice_known-3-1.given 0)
 
 pub loop-i-preserved : goal.loop-i-preserved
 loop-i-preserved c =

@@ -1,5 +1,4 @@
 -- Each turn passes one statement that is no Allow, or is not written.
-use Prim.Native.Nat.{◌-◌}
 use Rattle.held.specs.Held.{held_statement}
 use Rattle.refined.specs.Keeping.{policy_values}
 use Rattle.refined.proofs.Laws.KeepingTests.{Lookings}
@@ -8,6 +7,3 @@ use Rattle.refined.proofs.finishing.some_allowed.Given as goal
 
 abbrev pub invariant-loop-i : goal.invariant-loop-i
 invariant-loop-i l = Lookings held_statement policy_values allow_test l.run l.room 1 0 l.n l.i l.p l.s
-
-abbrev pub decreases-loop-i : goal.decreases-loop-i
-decreases-loop-i l = l.n - l.i

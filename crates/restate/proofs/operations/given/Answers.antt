@@ -1,11 +1,18 @@
--- What the room shows is a whole result.
-use native.Mathlib.Omega.{arith}
-use Rattle.restate.proofs.Laws.Handing.{hand_short, hand_whole}
+-- They are a whole result.
+use mathlib.Core.Path.{ap, ◌∙◌}
+use mathlib.Core.List.{List, ◌++◌}
+use Prim.Native.Nat.{ℕ}
+use lib.ListN.{length, drop}
+use Rattle.policy.specs.Reading.{known}
+use Rattle.restate.proofs.Laws.Handing.{handed_short, handed_whole, laid}
 use Rattle.restate.proofs.operations.given.Goals as goal
 
 pub returns-then-n-out : goal.returns-then-n-out
-returns-then-n-out c = λ ws s. hand_short _ s (omega (arith, c.requires.0, c.requires.1)) c.if-n-out.true
+returns-then-n-out c = handed_short _ _ c.requires c.if-n-out.true
 
 pub returns : goal.returns
 returns c =
-    λ ws s. hand_whole _ s (omega (arith, c.requires.0, c.requires.1)) c.if-n-out.false c.copy.ensures
+    let bs = c.args.bytes.now in
+    ap (λ (l : List ℕ). (known (length bs), l ++ drop (length bs) c.args.out.now)) c.copy_from_slice.ensures.after
+    ∙ ap (λ (l : List ℕ). (known (length bs), l)) (laid bs c.args.out.now c.if-n-out.false)
+    ∙ handed_whole bs c.args.out.now c.requires c.if-n-out.false

@@ -1,8 +1,13 @@
 -- A small room that took the whole shows the same as a large one.
-use native.Mathlib.Omega.{arith}
-use Rattle.restate.proofs.Laws.Handing.{shows_taken}
+use mathlib.Core.Path.{ap, ◌∙◌}
+use mathlib.Core.List.{List}
+use Prim.Native.Nat.{ℕ}
+use Rattle.restate.specs.Operations.{handed}
+use Rattle.restate.proofs.Laws.Handing.{shows_taken, given_is}
 use Rattle.restate.proofs.operations.hand.Goals as goal
 
-pub returns-then-n-le512 : goal.returns-then-n-le512
-returns-then-n-le512 c =
-    λ x l. c.given.ensures _ (shows_taken (c.put_policy-n.ensures x l) (omega arith))
+pub returns-in-Some : goal.returns-in-Some
+returns-in-Some c =
+    λ x l. c.given.ensures
+    ∙ ap (λ (bs : List ℕ). handed bs c.args.out.now)
+    (given_is c.args.out.now (shows_taken c.new-sink.ensures.1 (c.put_policy.ensures x l)) c.written.ensures c.in-Some.is)

@@ -2,26 +2,19 @@
 use native.Mathlib.Omega.{arith}
 use Rattle.held.specs.Held.{held}
 use Rattle.policy.specs.Reading.{policy_rules}
-use Rattle.decide.proofs.Laws.Operations.{answers_held, answers_refused, knows_lies}
+use Rattle.decide.proofs.Laws.Operations.{handed_on, knows_lies}
 use Rattle.restate.specs.Operations.{policy_refused, restated}
 use Rattle.restate.proofs.operations.restate_lent.Goals as goal
 
+pub returns-in_err-n : goal.returns-in_err-n
+returns-in_err-n c = rw (handed_on _ c.from_residual.ensures.1) (policy_refused c.in_err-n.ensures)
+
 pub hand-requires : goal.hand-requires
 hand-requires c =
-    let known = answers_held policy_rules held _ _ c.read_policy-h.ensures c.in-Held.is in
-    record {
-      thing = known.thing;
-      lies = knows_lies policy_rules held _ _ (omega (arith, c.requires.bounded, c.read_policy-h.auto.run)) known;
-    }
+    let known = c.in_ok-n.ensures in
+    record { thing = known.thing; lies = knows_lies policy_rules held _ _ (omega arith) known }
 
-pub returns-in-Held : goal.returns-in-Held
-returns-in-Held c =
-    let known = answers_held policy_rules held _ _ c.read_policy-h.ensures c.in-Held.is in
-    let lies = knows_lies policy_rules held _ _ (omega (arith, c.requires.bounded, c.read_policy-h.auto.run))
-    known in
-    restated known.says (c.hand.ensures known.thing lies)
-
-pub returns-in-Refused : goal.returns-in-Refused
-returns-in-Refused c =
-    policy_refused (answers_refused policy_rules held _ _ c.read_policy-h.ensures
-    c.in-Refused.is)
+pub returns : goal.returns
+returns c =
+    let known = c.in_ok-n.ensures in
+    restated known.says (c.hand.ensures known.thing (knows_lies policy_rules held _ _ (omega arith) known))

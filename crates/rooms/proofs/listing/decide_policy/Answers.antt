@@ -1,11 +1,9 @@
 -- Each turn passes one statement, kept in mind where it is the first that holds, and notes what it charges; a Deny that
 -- holds ends the walk.
-use mathlib.Core.Path.{ap, ◌∙◌}
 use native.Mathlib.Omega.{arith}
 use Rattle.held.proofs.Laws.RunsStatement.{policy_inside}
 use Rattle.decision.specs.Decision.{part_of}
-use Rattle.decision.specs.Deciding.{is_nothing}
-use Rattle.decision.proofs.Laws.DecidingOrder.{nothing_none}
+use Rattle.decision.proofs.Laws.DecidingOrder.{none_told}
 use Rattle.rooms.proofs.Laws.Judging.{judging_start, judging_next, judging_size, judging_noting}
 use Rattle.rooms.proofs.Laws.Judging.{judging_lying, judged_denied, judged_implicit, judged_allowed}
 use Rattle.rooms.proofs.listing.decide_policy.Goals as goal
@@ -13,9 +11,6 @@ use Rattle.rooms.proofs.listing.decide_policy.Goals as goal
 pub bounds-run-0 : goal.bounds-run-0
 bounds-run-0 c =
     policy_inside c.requires.0.thing c.requires.0.lies
-
-pub overflow_cast-n : goal.overflow_cast-n
-overflow_cast-n c = omega (arith, c.shared_slice_known-3-1.given 0)
 
 pub loop-i-init : goal.loop-i-init
 loop-i-init c = λ x q l m. judging_start x q l
@@ -40,28 +35,18 @@ pub returns-then-is_denying : goal.returns-then-is_denying
 returns-then-is_denying c =
     λ x q l m.
     judged_denied (c.loop-i.invariant x q l m) c.loop-i-test.true
-    (λ s k. c.is_nothing-holds.ensures
-    ∙ ap is_nothing (c.first_failing.ensures s q k m) ∙ nothing_none (part_of s q))
+    (λ s k. none_told (part_of s q) (c.first_failing.ensures s q k m) c.is_none-holds.ensures)
     c.is_denying.ensures (judging_size c.loop-i.invariant c.requires) c.if-is_denying.true
-
-pub overflow_add-i : goal.overflow_add-i
-overflow_add-i c =
-    omega (arith, c.loop-i-test.true, c.shared_slice_known-3-1.given 0)
 
 pub list_if-g-requires : goal.list_if-g-requires
 list_if-g-requires c =
     (judging_noting c.loop-i.invariant c.requires c.loop-i-test.true, c.requires.1)
 
-pub overflow_add-i-in-loop-i : goal.overflow_add-i-in-loop-i
-overflow_add-i-in-loop-i c =
-    omega (arith, c.loop-i-test.true, c.shared_slice_known-3-1.given 0)
-
 pub loop-i-preserved : goal.loop-i-preserved
 loop-i-preserved c =
     λ x q l m.
     judging_next (c.loop-i.invariant x q l m) c.loop-i-test.true
-    (λ s k. c.is_nothing-holds.ensures
-    ∙ ap is_nothing (c.first_failing.ensures s q k m) ∙ nothing_none (part_of s q))
+    (λ s k. none_told (part_of s q) (c.first_failing.ensures s q k m) c.is_none-holds.ensures)
     c.is_denying.ensures c.if-is_denying.false c.first_of-allowed.ensures
     (λ s k. c.list_if-g.ensures s q k m)
 

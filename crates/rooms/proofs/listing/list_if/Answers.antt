@@ -1,6 +1,5 @@
 -- The parts are asked for the request where the statement holds, and else for nothing.
 use mathlib.Core.List.{[]}
-use native.Mathlib.Omega.{arith}
 use Rattle.syntax.specs.Policy.{text}
 use Rattle.held.proofs.Laws.Parts.{request_action, request_resource, text_value}
 use Rattle.decision.specs.Decision.{nothing, found}
@@ -8,8 +7,8 @@ use Rattle.rooms.specs.Listing.{no_value, no_context}
 use Rattle.rooms.proofs.Laws.ListingWalk.{lists_charged}
 use Rattle.rooms.proofs.Laws.ListingStatement.{hits_not, hits_all}
 use Rattle.rooms.proofs.Laws.ListingParts.{carried_none, asking_none, action_valued}
-use Rattle.rooms.proofs.Laws.ListingParts.{resource_valued, contexts_asked, action_carried, resource_inside}
-use Rattle.rooms.proofs.Laws.ListingParts.{resource_carried, contexts_inside, contexts_asking}
+use Rattle.rooms.proofs.Laws.ListingParts.{resource_valued, contexts_asked, action_carried}
+use Rattle.rooms.proofs.Laws.ListingParts.{resource_carried, contexts_asking}
 use Rattle.rooms.proofs.listing.list_if.Goals as goal
 
 pub list_parts-requires : goal.list_parts-requires
@@ -29,18 +28,6 @@ past_value-t-requires c =
 pub past_value-c-requires : goal.past_value-c-requires
 past_value-c-requires c =
     text_value (request_resource c.requires.1 c.past_value-t.ensures)
-
-pub overflow_add-t : goal.overflow_add-t
-overflow_add-t c =
-    omega (arith, resource_inside c.requires.1 c.past_value-t.ensures, c.requires.1.lies.bounded)
-
-pub overflow_add-c : goal.overflow_add-c
-overflow_add-c c =
-    omega (
-      arith,
-      contexts_inside c.requires.1 c.past_value-t.ensures c.past_value-c.ensures,
-      c.requires.1.lies.bounded,
-    )
 
 pub list_parts-requires-2 : goal.list_parts-requires-2
 list_parts-requires-2 c = (

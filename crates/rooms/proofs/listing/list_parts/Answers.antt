@@ -1,7 +1,5 @@
 -- The lists lie one behind the other, each where the one before it ends, and so do the notes of their entries.
-use mathlib.Core.Path.{refl}
 use Rattle.held.proofs.Laws.Parts.{statement_inside, statement_lying}
-use Rattle.candidates.specs.Entries.{in_action, in_resource}
 use Rattle.rooms.proofs.Laws.ListingParts.{actions_listed, resources_listed, rows_listed, statement_listed}
 use Rattle.rooms.proofs.Laws.ListingParts.{statement_lies, statement_effecting, actions_listable}
 use Rattle.rooms.proofs.Laws.ListingParts.{resources_listable, rows_listable}
@@ -18,7 +16,6 @@ behind_label-a-requires c =
 pub list_entries-b-requires : goal.list_entries-b-requires
 list_entries-b-requires c = (
   statement_effecting c.requires.0,
-  record { place = in_action; is = refl },
   actions_listable c.requires.0 c.behind_label-a.ensures,
   c.requires.1,
 )
@@ -26,7 +23,6 @@ list_entries-b-requires c = (
 pub list_entries-c-requires : goal.list_entries-c-requires
 list_entries-c-requires c = (
   statement_effecting c.requires.0,
-  record { place = in_resource; is = refl },
   resources_listable c.requires.0 c.behind_label-a.ensures
       (actions_listed c.requires.0.thing c.requires.0.lies c.behind_label-a.ensures c.list_entries-b.ensures
       c.requires.1.valued),

@@ -2,7 +2,6 @@
 -- whichever policy lies there
 use mathlib.Core.Path.{refl}
 use mathlib.Core.List.{[]}
-use native.Mathlib.Omega.{arith}
 use Rattle.held.proofs.Laws.RunsStatement.{policy_inside}
 use Rattle.decision.specs.Decision.{nothing}
 use Rattle.rooms.specs.Rooms.{statement_slots, slots, none}
@@ -18,9 +17,6 @@ pub bounds-run-0 : goal.bounds-run-0
 bounds-run-0 c =
     policy_inside c.requires.thing c.requires.lies
 
-pub overflow_cast-n : goal.overflow_cast-n
-overflow_cast-n c = omega (arith, c.shared_slice_known-2-1.given 0)
-
 pub loop-i-init : goal.loop-i-init
 loop-i-init c = λ x l. statements_start (λ y. none (slots y)) x _ _ _ l
 
@@ -32,10 +28,6 @@ list_parts-g-requires c = (
   carried_none _,
   asking_none _,
 )
-
-pub overflow_add-i : goal.overflow_add-i
-overflow_add-i c =
-    omega (arith, c.loop-i-test.true, c.shared_slice_known-2-1.given 0)
 
 pub loop-i-preserved : goal.loop-i-preserved
 loop-i-preserved c =

@@ -1,6 +1,5 @@
 -- Each turn notes the entries of one statement behind those before it.
 -- whichever policy lies there
-use Prim.Native.Nat.{◌-◌}
 use Rattle.syntax.specs.Policy.{Policy}
 use Rattle.held.specs.Held.{held}
 use Rattle.held.specs.Lying.{Lies}
@@ -11,6 +10,3 @@ use Rattle.rooms.proofs.listing.list_policy.Given as goal
 abbrev pub invariant-loop-i : goal.invariant-loop-i
 invariant-loop-i l =
     (x : Policy) → Lies l.run 0 (held x) → StatementsWalk (λ y. none (slots y)) x l.run l.run l.initial.dir l.n l.i l.p l.dir l.next
-
-abbrev pub decreases-loop-i : goal.decreases-loop-i
-decreases-loop-i l = l.n - l.i

@@ -5,20 +5,15 @@ use Rattle.held.specs.Held.{held_row}
 use Rattle.held.proofs.Laws.Runs.{lies_first, lies_inside, lies_next}
 use Rattle.held.proofs.Laws.Parts.{row_operator, row_lying, entries_lie}
 use Rattle.decision.specs.Decision.{value_at}
-use Rattle.candidates.specs.Entries.{in_row}
 use Rattle.rooms.specs.Rooms.{row_slots, row_hits}
 use Rattle.rooms.proofs.Laws.ListingWalk.{list_ending, walk_start, walk_end}
 use Rattle.rooms.proofs.Laws.ListingTurns.{rows_size, row_there, row_inside_there, row_noting}
-use Rattle.rooms.proofs.Laws.ListingTurns.{row_next}
+use Rattle.rooms.proofs.Laws.ListingTurns.{row_next, row_as}
 use Rattle.rooms.proofs.listing.list_rows.Goals as goal
 
 pub bounds-run-at : goal.bounds-run-at
 bounds-run-at c =
     lies_inside c.requires.1.lies
-
-pub overflow_cast-n : goal.overflow_cast-n
-overflow_cast-n c =
-    omega (arith, c.shared_slice_known-3-1.given c.args.at)
 
 pub overflow_add-p : goal.overflow_add-p
 overflow_add-p c =
@@ -53,23 +48,14 @@ list_entries-g-requires c =
     row_noting c.loop-i.invariant c.requires c.loop-i-test.true
     c.behind_label-l.ensures c.value_of-v.ensures
 
-pub overflow_add-i : goal.overflow_add-i
-overflow_add-i c =
-    omega (
-      arith,
-      c.loop-i-test.true,
-      c.shared_slice_known-3-1.given
-          c.args.at,
-    )
-
 pub loop-i-preserved : goal.loop-i-preserved
 loop-i-preserved c =
     λ a xs cs e l w.
     row_next a xs cs (c.loop-i.invariant a xs cs e l w) c.loop-i-test.true
     c.behind_label-l.ensures
-    (λ x m. c.list_entries-g.ensures a (in_row x.operator) x.entries
-    (value_at x.key cs) e (row_operator x m)
-    (entries_lie x m c.behind_label-l.ensures) (c.value_of-v.ensures x cs m w))
+    (λ x m. row_as a (value_at x.key cs) x.entries (c.operator_of_row.ensures x.operator (row_operator x m))
+    (c.list_entries-g.ensures a x.entries (value_at x.key cs) e
+    (entries_lie x m c.behind_label-l.ensures) (c.value_of-v.ensures x cs m w)))
 
 pub shape_of-dir : goal.shape_of-dir
 shape_of-dir c =

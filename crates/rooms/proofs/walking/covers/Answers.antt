@@ -12,31 +12,25 @@ bounds-row-0 c = omega (arith, (stands c.requires).size)
 pub bounds-row-1 : goal.bounds-row-1
 bounds-row-1 c = omega (arith, (stands c.requires).size)
 
-pub overflow_cast-to : goal.overflow_cast-to
-overflow_cast-to c = omega (arith, (stands c.requires).told)
-
-pub overflow_add-to : goal.overflow_add-to
-overflow_add-to c = omega (arith, (stands c.requires).told)
-
 pub slice_bounds-begins-end : goal.slice_bounds-begins-end
 slice_bounds-begins-end c =
     let row = stands c.requires in omega (arith, row.told, row.size)
 
-pub returns-then-mark-eq-BEGINNING : goal.returns-then-mark-eq-BEGINNING
-returns-then-mark-eq-BEGINNING c =
-    λ p ys m e. under_covers p ys _ _ c.if-mark-eq-BEGINNING.true (sym c.begins.ensures ∙ e)
+pub returns-in-3 : goal.returns-in-3
+returns-in-3 c =
+    λ p ys m e. under_covers p ys _ _ c.in-3.is (sym c.begins.ensures ∙ e)
 
 pub slice_bounds-same_text-end : goal.slice_bounds-same_text-end
 slice_bounds-same_text-end c =
     let row = stands c.requires in omega (arith, row.told, row.size)
 
-pub returns-then-mark-eq-SINGLE : goal.returns-then-mark-eq-SINGLE
-returns-then-mark-eq-SINGLE c =
-    λ p ys m e. single_covers p ys _ _ c.if-mark-eq-SINGLE.true (sym c.same_text.ensures ∙ e)
+pub returns-in-2 : goal.returns-in-2
+returns-in-2 c =
+    λ p ys m e. single_covers p ys _ _ c.in-2.is (sym c.same_text.ensures ∙ e)
 
-pub returns-then-mark-eq-ITSELF : goal.returns-then-mark-eq-ITSELF
-returns-then-mark-eq-ITSELF c =
-    λ p ys m e. itself_covers p ys _ _ (stands c.requires).size c.if-mark-eq-ITSELF.true m
+pub returns-in-1 : goal.returns-in-1
+returns-in-1 c =
+    λ p ys m e. itself_covers p ys _ _ (stands c.requires).size c.in-1.is m
 
-pub returns : goal.returns
-returns c = λ p ys m e. absurd (true_false e refl)
+pub returns-in_default : goal.returns-in_default
+returns-in_default c = λ p ys m e. absurd (true_false e refl)

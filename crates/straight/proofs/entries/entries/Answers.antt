@@ -12,4 +12,4 @@ pub returns : goal.returns
 returns c =
     several_taken (omega (arith, c.if-run-at.false))
     (several_past held_value 1 c.args.s.now c.args.run.now _ c.args.v (c.args.at + 1)
-    (one_or_more (entry_of c.args.k)) c.listed-c.ensures c.in-Several.is)
+    (one_or_more (entry_of c.args.k)) c.listed.ensures c.in_ok-past.was)

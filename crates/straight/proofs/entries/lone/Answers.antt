@@ -11,4 +11,4 @@ pub returns : goal.returns
 returns c =
     lone_taken c.args.k (omega (arith, c.if-run-at.false))
     (takes_past held_value 0 c.args.s.now c.args.run.now _ c.args.v (c.args.at + 1)
-    (entry_of c.args.k) c.entry-h.ensures c.in-Past.is)
+    (entry_of c.args.k) c.entry.ensures c.in_ok-h.was)

@@ -4,24 +4,8 @@ use native.Mathlib.Omega.{arith}
 use Rattle.syntax.specs.Members.{characters_of}
 use Rattle.held.specs.Held.{held_text}
 use Rattle.straight.proofs.Laws.Taking.{takes_past}
-use Rattle.straight.proofs.Laws.Texts.{text_first, text_within}
 use Rattle.straight.proofs.Laws.Entries.{number_bound, number_taken}
 use Rattle.straight.proofs.entries.quoted_number.Goals as goal
-
-pub slice_bounds-number_in-count : goal.slice_bounds-number_in-count
-slice_bounds-number_in-count c =
-    text_first c.requires ((takes_past held_text 0 c.args.s.now c.args.run.now c.string-h.new.run
-    c.args.v c.args.at characters_of c.string-h.ensures c.in-Past.is))
-
-pub slice_bounds-number_in-start : goal.slice_bounds-number_in-start
-slice_bounds-number_in-start c =
-    text_first c.requires ((takes_past held_text 0 c.args.s.now c.args.run.now c.string-h.new.run
-    c.args.v c.args.at characters_of c.string-h.ensures c.in-Past.is))
-
-pub slice_bounds-number_in-end : goal.slice_bounds-number_in-end
-slice_bounds-number_in-end c =
-    text_within c.requires ((takes_past held_text 0 c.args.s.now c.args.run.now c.string-h.new.run
-    c.args.v c.args.at characters_of c.string-h.ensures c.in-Past.is))
 
 pub put_number-requires : goal.put_number-requires
 put_number-requires c = (
@@ -29,23 +13,23 @@ put_number-requires c = (
     room = omega (
       arith,
       c.if-run-at-lt2.false,
-      ((takes_past held_text 0 c.args.s.now c.args.run.now c.string-h.new.run
-          c.args.v c.args.at characters_of c.string-h.ensures c.in-Past.is)).laid.extends.size,
+      ((takes_past held_text 0 c.args.s.now c.args.run.now c.string.new.run
+          c.args.v c.args.at characters_of c.string.ensures c.in_ok-past.was)).laid.extends.size,
       c.requires.room,
     );
     bounded = omega (
       arith,
       c.requires.bounded,
-      ((takes_past held_text 0 c.args.s.now c.args.run.now c.string-h.new.run
-          c.args.v c.args.at characters_of c.string-h.ensures c.in-Past.is)).laid.extends.size,
+      ((takes_past held_text 0 c.args.s.now c.args.run.now c.string.new.run
+          c.args.v c.args.at characters_of c.string.ensures c.in_ok-past.was)).laid.extends.size,
     );
   },
-  number_bound c.requires ((takes_past held_text 0 c.args.s.now c.args.run.now c.string-h.new.run
-      c.args.v c.args.at characters_of c.string-h.ensures c.in-Past.is)) c.number_in-k.ensures c.in-Is.is,
+  number_bound c.requires ((takes_past held_text 0 c.args.s.now c.args.run.now c.string.new.run
+      c.args.v c.args.at characters_of c.string.ensures c.in_ok-past.was)) c.number_in.ensures c.in_ok-n.was,
 )
 
 pub returns : goal.returns
 returns c =
-    number_taken c.requires ((takes_past held_text 0 c.args.s.now c.args.run.now c.string-h.new.run
-    c.args.v c.args.at characters_of c.string-h.ensures c.in-Past.is)) c.number_in-k.ensures c.in-Is.is
+    number_taken c.requires ((takes_past held_text 0 c.args.s.now c.args.run.now c.string.new.run
+    c.args.v c.args.at characters_of c.string.ensures c.in_ok-past.was)) c.number_in.ensures c.in_ok-n.was
     c.put_number.ensures

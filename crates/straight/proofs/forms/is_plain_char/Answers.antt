@@ -1,10 +1,11 @@
--- The colon is computed; any other must be a vendor's character.
-use mathlib.Core.Path.{◌∙◌}
-use Rattle.parts.proofs.Laws.Requests.Tests.{plain_colon, plain_rest}
+-- A vendor's character or the colon.
+use mathlib.Core.Path.{sym, ◌∙◌}
+use Rattle.parts.proofs.Laws.Requests.Tests.{plain_vendor, plain_rest}
 use Rattle.straight.proofs.forms.is_plain_char.Goals as goal
 
-pub returns-in-58 : goal.returns-in-58
-returns-in-58 c = plain_colon _ c.in-58.is
+pub returns-then-is_vendor_char : goal.returns-then-is_vendor_char
+returns-then-is_vendor_char c =
+    c.if-is_vendor_char.true ∙ plain_vendor _ (sym c.is_vendor_char.ensures ∙ c.if-is_vendor_char.true)
 
-pub returns-in_default : goal.returns-in_default
-returns-in_default c = c.is_vendor_char.ensures ∙ plain_rest _ c.in_default.in_default-own.rest.1
+pub returns-else-is_vendor_char : goal.returns-else-is_vendor_char
+returns-else-is_vendor_char c = plain_rest _ (sym c.is_vendor_char.ensures ∙ c.if-is_vendor_char.false)

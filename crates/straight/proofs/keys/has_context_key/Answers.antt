@@ -2,34 +2,31 @@
 use mathlib.Core.Path.{refl, sym, ◌∙◌}
 use mathlib.Core.Bool.{false}
 use Rattle.syntax.specs.RecordLayout.{same_context}
-use Rattle.held.proofs.Laws.RunsWalk.{walk_start, walk_lying, walk_next, walk_end, walk_found, like_any}
+use Rattle.held.proofs.Laws.RunsWalk.{walk_lying, walk_next, walk_end, walk_found, like_any}
 use Rattle.straight.proofs.keys.has_context_key.Goals as goal
-
-pub loop-i-init : goal.loop-i-init
-loop-i-init c = λ x m xs k l. walk_start k l
 
 pub same_context_at-requires : goal.same_context_at-requires
 same_context_at-requires c =
-    let w = c.loop-i.invariant c.requires.1.thing c.requires.1.lies c.requires.0.things c.requires.0.count c.requires.0.lies in
-    (c.requires.1, walk_lying w c.loop-i-test.true)
+    let w = c.loop.invariant c.requires.1.thing c.requires.1.lies c.requires.0.things c.requires.0.count c.requires.0.lies in
+    (c.requires.1, walk_lying w c.loop-test.true)
 
 pub returns-then-same_context_at : goal.returns-then-same_context_at
 returns-then-same_context_at c =
     λ xs x k l m.
-    let w = c.loop-i.invariant x m xs k l in
-    sym (like_any same_context x xs ∙ walk_found w c.loop-i-test.true
+    let w = c.loop.invariant x m xs k l in
+    sym (like_any same_context x xs ∙ walk_found w c.loop-test.true
     (λ y z. sym (c.same_context_at.ensures x y m z) ∙ c.if-same_context_at.true))
 
 pub past_context-q-requires : goal.past_context-q-requires
 past_context-q-requires c =
-    let w = c.loop-i.invariant c.requires.1.thing c.requires.1.lies c.requires.0.things c.requires.0.count c.requires.0.lies in
-    walk_lying w c.loop-i-test.true
+    let w = c.loop.invariant c.requires.1.thing c.requires.1.lies c.requires.0.things c.requires.0.count c.requires.0.lies in
+    walk_lying w c.loop-test.true
 
-pub loop-i-preserved : goal.loop-i-preserved
-loop-i-preserved c =
+pub loop-preserved : goal.loop-preserved
+loop-preserved c =
     λ x m xs k l.
-    let w = c.loop-i.invariant x m xs k l in
-    walk_next w c.loop-i-test.true _ 0 false
+    let w = c.loop.invariant x m xs k l in
+    walk_next w c.loop-test.true _ 0 false
     (λ y z. (
       c.past_context-q.ensures y z,
       refl,
@@ -39,4 +36,4 @@ loop-i-preserved c =
 pub returns : goal.returns
 returns c =
     λ xs x k l m.
-    (walk_end (c.loop-i.invariant x m xs k l) c.loop-i-test.false).limit ∙ sym (like_any same_context x xs)
+    (walk_end (c.loop.invariant x m xs k l) c.loop-test.false).limit ∙ sym (like_any same_context x xs)

@@ -1,6 +1,5 @@
 -- The keys lie where their entries' second numbers say.
 use mathlib.Core.Path.{◌∙◌}
-use native.Mathlib.Omega.{arith}
 use Rattle.syntax.specs.Forms.{same_key}
 use Rattle.held.proofs.Laws.Runs.{named_both}
 use Rattle.held.proofs.Laws.Requests.Lying.{context_named}
@@ -10,29 +9,9 @@ pub bounds-run-p : goal.bounds-run-p
 bounds-run-p c =
     (context_named c.requires.0.thing c.requires.0.lies).inside
 
-pub overflow_cast-to : goal.overflow_cast-to
-overflow_cast-to c =
-    let y = context_named c.requires.0.thing c.requires.0.lies in
-    omega (arith, y.ends, y.bounded)
-
-pub overflow_add-to-2 : goal.overflow_add-to-2
-overflow_add-to-2 c =
-    let y = context_named c.requires.0.thing c.requires.0.lies in
-    omega (arith, y.ends, y.bounded)
-
 pub bounds-run-q : goal.bounds-run-q
 bounds-run-q c =
     (context_named c.requires.1.thing c.requires.1.lies).inside
-
-pub overflow_cast-b : goal.overflow_cast-b
-overflow_cast-b c =
-    let y = context_named c.requires.1.thing c.requires.1.lies in
-    omega (arith, y.ends, y.bounded)
-
-pub overflow_add-b-2 : goal.overflow_add-b-2
-overflow_add-b-2 c =
-    let y = context_named c.requires.1.thing c.requires.1.lies in
-    omega (arith, y.ends, y.bounded)
 
 pub slice_bounds-same_key-end : goal.slice_bounds-same_key-end
 slice_bounds-same_key-end c =

@@ -1,13 +1,7 @@
 -- White space is passed, and the byte stands behind it.
 use native.Mathlib.Omega.{arith}
-use Rattle.straight.proofs.Laws.Marks.{unless_none, unless_some, closed_reads}
+use Rattle.straight.proofs.Laws.Marks.{unless_some, closed_reads}
 use Rattle.straight.proofs.marks.closed.Goals as goal
-
-pub returns-then-s-j : goal.returns-then-s-j
-returns-then-s-j c = unless_none
-
-pub returns-then-s-j-2 : goal.returns-then-s-j-2
-returns-then-s-j-2 c = unless_none
 
 pub returns : goal.returns
 returns c =

@@ -1,13 +1,7 @@
 -- The byte stands there, and white space is passed behind it.
 use native.Mathlib.Omega.{arith}
-use Rattle.straight.proofs.Laws.Marks.{unless_none, unless_some, opened_reads}
+use Rattle.straight.proofs.Laws.Marks.{unless_some, opened_reads}
 use Rattle.straight.proofs.marks.opened.Goals as goal
-
-pub returns-then-s-v : goal.returns-then-s-v
-returns-then-s-v c = unless_none
-
-pub returns-then-s-v-2 : goal.returns-then-s-v-2
-returns-then-s-v-2 c = unless_none
 
 pub returns : goal.returns
 returns c =

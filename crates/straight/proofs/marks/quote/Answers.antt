@@ -1,22 +1,7 @@
 -- Quotes stand around the word, which is a string's body since each of its bytes stands for itself.
 use native.Mathlib.Omega.{arith}
-use Rattle.straight.proofs.Laws.Marks.{unless_none, unless_some, quoted_bare}
+use Rattle.straight.proofs.Laws.Marks.{unless_some, quoted_bare}
 use Rattle.straight.proofs.marks.quote.Goals as goal
-
-pub returns-then-s-at : goal.returns-then-s-at
-returns-then-s-at c = unless_none
-
-pub returns-then-left-w : goal.returns-then-left-w
-returns-then-left-w c = unless_none
-
-pub returns-then-left-w-lt2 : goal.returns-then-left-w-lt2
-returns-then-left-w-lt2 c = unless_none
-
-pub returns-then-s-at-ne34 : goal.returns-then-s-at-ne34
-returns-then-s-at-ne34 c = unless_none
-
-pub returns-then-not-spells : goal.returns-then-not-spells
-returns-then-not-spells c = unless_none
 
 pub returns : goal.returns
 returns c =

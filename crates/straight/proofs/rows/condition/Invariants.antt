@@ -5,7 +5,7 @@ use Rattle.straight.proofs.Laws.Conditions.{Rising}
 use Rattle.straight.proofs.rows.condition.Given as goal
 
 abbrev pub invariant-loop-operator : goal.invariant-loop-operator
-invariant-loop-operator l = Rising l.s l.v l.initial.run l.at l.i l.run l.p l.n l.seen
+invariant-loop-operator l = Rising l.s l.v l.initial.run l.at l.i l.run l.past l.count l.seen
 
 abbrev pub decreases-loop-operator : goal.decreases-loop-operator
 decreases-loop-operator l = length l.s - l.i

@@ -3,23 +3,14 @@ use Rattle.straight.specs.Marks.{all_bare}
 use borrow.Author.Rules.{rules}
 use Rattle.straight.proofs.rows.operator_at.Goals as goal
 
-pub named-a-requires : goal.named-a-requires
+pub named-requires : goal.named-requires
 unfolding all_bare
-named-a-requires c = search rules
+named-requires c = search rules
 
-pub returns-then-a-ne0 : goal.returns-then-a-ne0
-returns-then-a-ne0 c = c.named-a.ensures.found c.if-a-ne0.true
-
-pub named-b-requires : goal.named-b-requires
+pub named-requires-2 : goal.named-requires-2
 unfolding all_bare
-named-b-requires c = search rules
+named-requires-2 c = search rules
 
-pub returns-then-b-ne0 : goal.returns-then-b-ne0
-returns-then-b-ne0 c = c.named-b.ensures.found c.if-b-ne0.true
-
-pub named-c-requires : goal.named-c-requires
+pub named-requires-3 : goal.named-requires-3
 unfolding all_bare
-named-c-requires c = search rules
-
-pub returns-then-c-ne0 : goal.returns-then-c-ne0
-returns-then-c-ne0 c = c.named-c.ensures.found c.if-c-ne0.true
+named-requires-3 c = search rules

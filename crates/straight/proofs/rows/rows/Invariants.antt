@@ -6,8 +6,8 @@ use Rattle.straight.proofs.Laws.Differing.{Differing}
 use Rattle.straight.proofs.Laws.Rows.{rows_by}
 use Rattle.straight.proofs.rows.rows.Given as goal
 
-abbrev pub invariant-loop-past : goal.invariant-loop-past
-invariant-loop-past l = Differing (rows_by (operator_is l.o)) l.s l.v l.initial.run l.at l.i l.run l.p l.n
+abbrev pub invariant-loop-h : goal.invariant-loop-h
+invariant-loop-h l = Differing (rows_by (operator_is l.o)) l.s l.v l.initial.run l.at l.i l.run l.past l.count
 
-abbrev pub decreases-loop-past : goal.decreases-loop-past
-decreases-loop-past l = length l.s - l.i
+abbrev pub decreases-loop-h : goal.decreases-loop-h
+decreases-loop-h l = length l.s - l.i

@@ -1,10 +1,6 @@
 -- As long as all were plain, the bytes passed stand for themselves.
-use mathlib.Core.Path.{◌≡◌, ap, ◌∙◌}
-use Prim.Native.Nat.{ℕ, ◌+◌}
 use native.Mathlib.Omega.{arith}
-use Rattle.chars.specs.Base.{part}
 use Rattle.chars.proofs.Laws.Tests.{each_true}
-use Rattle.straight.specs.Marks.{all_bare}
 use Rattle.straight.proofs.Laws.Strings.{bare_none, bare_next}
 use borrow.Author.Rules.{rules}
 use Rattle.straight.proofs.strings.plain_eight.Goals as goal
@@ -20,8 +16,3 @@ loop-j-preserved c = (
       bare_next c.args.s.now c.args.at c.loop-j.j (omega (arith, c.requires)) (c.loop-j.invariant.1 b.0)
       (c.plain-all.ensures b.1),
 )
-
-pub returns : goal.returns
-returns c = λ e.
-    let k : 8 ≡ c.loop-j.j = omega arith in
-    ap (λ (n : ℕ). all_bare (part c.args.s.now c.args.at (c.args.at + n))) k ∙ c.loop-j.invariant.1 e

@@ -1,25 +1,21 @@
--- Every character passed belongs to a key.
-use mathlib.Core.Path.{sym, ◌∙◌}
+-- Every character belongs to a key.
+use Rattle.std.proofs.Common.{◌≡◌, ◌∙◌, sym, rules, tests}
+use Rattle.std.proofs.lemmas.Iterator.{YieldsList-from_slice}
+use Rattle.std.proofs.lemmas.Iterator.Search.{all_from_yields_List}
+use borrow.Author.Tests.{eqb-true, eqb-false}
+use Rattle.std.specs.List.{list_all}
 use Rattle.syntax.specs.Forms.{is_key_char}
-use Rattle.syntax.proofs.Laws.Forms.{key_none, key_some, all_next, all_stop, all_end}
+use Rattle.syntax.proofs.Laws.Forms.{key_none, key_listed}
 use Rattle.syntax.proofs.forms.is_key.Goals as goal
 
-pub returns-then-cs-eq0 : goal.returns-then-cs-eq0
-returns-then-cs-eq0 c = sym (key_none c.args.cs.now c.if-cs-eq0.true)
+pub returns-then-not-is_empty : goal.returns-then-not-is_empty
+returns-then-not-is_empty c =
+    let each : c.all.result ≡ list_all is_key_char c.args.cs.now =
+    all_from_yields_List is_key_char _ _ c.all.result c.all.ensures.ran (YieldsList-from_slice _ c.iter.ensures.rest)
+    (λ x b q k. search (rules, tests)) in
+    each ∙ key_listed c.args.cs.now (eqb-false _ _ (sym c.is_empty.ensures ∙ c.if-not-is_empty.true))
 
-pub loop-i-init : goal.loop-i-init
-loop-i-init c = key_some c.args.cs.now c.if-cs-eq0.false
-
-pub returns-then-not-is_key_char : goal.returns-then-not-is_key_char
-returns-then-not-is_key_char c =
-    sym (c.loop-i.invariant ∙ all_stop is_key_char c.args.cs.now c.loop-i.i c.loop-i-test.true
-    (sym c.is_key_char.ensures ∙ c.if-not-is_key_char.true))
-
-pub loop-i-preserved : goal.loop-i-preserved
-loop-i-preserved c =
-    c.loop-i.invariant ∙ all_next is_key_char c.args.cs.now c.loop-i.i c.loop-i-test.true
-    (sym c.is_key_char.ensures ∙ c.if-not-is_key_char.false)
-
-pub returns : goal.returns
-returns c =
-    sym (c.loop-i.invariant ∙ all_end is_key_char c.args.cs.now c.loop-i.i c.loop-i-test.false)
+pub returns-else-not-is_empty : goal.returns-else-not-is_empty
+returns-else-not-is_empty c =
+    rw c.if-not-is_empty.false
+    (sym (key_none c.args.cs.now (eqb-true _ _ (sym c.is_empty.ensures ∙ c.if-not-is_empty.false))))

@@ -1,31 +1,30 @@
--- Every character passed is a letter or a digit.
-use mathlib.Core.Path.{sym, ◌∙◌}
+-- Every character passed is a letter or a digit, and so are all behind.
+use Rattle.std.proofs.Common.{◌≡◌, ◌∙◌, ◌-◌, sym, length, take, drop, rules, tests}
+use Rattle.std.proofs.lemmas.Iterator.{YieldsList-from_slice}
+use Rattle.std.proofs.lemmas.Iterator.Search.{all_from_yields_List}
+use Rattle.std.specs.List.{list_all}
+use borrow.Author.Tests.{eqb-true, eqb-false}
 use Rattle.syntax.specs.Forms.{is_alphanumeric}
-use Rattle.syntax.proofs.Laws.Forms.{sid_none, sid_long, sid_some, all_next, all_stop, all_end}
-use Rattle.syntax.proofs.Laws.Each.{each_alphanumeric}
+use Rattle.syntax.proofs.Laws.Forms.{sid_none, sid_long}
+use Rattle.syntax.proofs.Laws.Each.{sid_listed}
+use Rattle.syntax.proofs.forms.is_sid.Goals.{then-is_empty-via-then-is_empty}
+use Rattle.syntax.proofs.forms.is_sid.Goals.{then-is_empty-via-else-is_empty+then-cs-gt-SID}
 use Rattle.syntax.proofs.forms.is_sid.Goals as goal
 
-pub returns-then-cs-eq0 : goal.returns-then-cs-eq0
-returns-then-cs-eq0 c = sym (sid_none c.args.cs.now c.if-cs-eq0.true)
-
-pub returns-then-cs-gt-SID : goal.returns-then-cs-gt-SID
-returns-then-cs-gt-SID c = sym (sid_long c.args.cs.now c.if-cs-gt-SID.true)
-
-pub loop-i-init : goal.loop-i-init
-loop-i-init c =
-    sid_some c.args.cs.now c.if-cs-eq0.false c.if-cs-gt-SID.false
-    ∙ each_alphanumeric c.args.cs.now c.past_eights-i.ensures
-
-pub returns-then-not-is_alphanumeric : goal.returns-then-not-is_alphanumeric
-returns-then-not-is_alphanumeric c =
-    sym (c.loop-i.invariant ∙ all_stop is_alphanumeric c.args.cs.now c.loop-i.i c.loop-i-test.true
-    (sym c.is_alphanumeric.ensures ∙ c.if-not-is_alphanumeric.true))
-
-pub loop-i-preserved : goal.loop-i-preserved
-loop-i-preserved c =
-    c.loop-i.invariant ∙ all_next is_alphanumeric c.args.cs.now c.loop-i.i c.loop-i-test.true
-    (sym c.is_alphanumeric.ensures ∙ c.if-not-is_alphanumeric.false)
+pub returns-then-is_empty : goal.returns-then-is_empty
+returns-then-is_empty c =
+    elim c.then-is_empty.branch [
+      | then-is_empty-via-then-is_empty w ↦
+          sym (sid_none c.args.cs.now (eqb-true _ _ (sym c.is_empty.ensures ∙ w.if-is_empty.true)))
+      | then-is_empty-via-else-is_empty+then-cs-gt-SID w ↦ sym (sid_long c.args.cs.now w.if-cs-gt-SID.true)
+    ]
 
 pub returns : goal.returns
 returns c =
-    sym (c.loop-i.invariant ∙ all_end is_alphanumeric c.args.cs.now c.loop-i.i c.loop-i-test.false)
+    let i = c.past_eights.result in
+    let each : c.all.result ≡ list_all is_alphanumeric (take (length c.args.cs.now - i) (drop i c.args.cs.now)) =
+    all_from_yields_List is_alphanumeric _ _ c.all.result c.all.ensures.ran
+    (YieldsList-from_slice _ c.iter.ensures.rest) (λ x b q k. search (rules, tests)) in
+    each
+    ∙ sid_listed c.args.cs.now (eqb-false _ _ (sym c.is_empty.ensures ∙ c.if-is_empty.false)) c.if-cs-gt-SID.false
+    c.past_eights.ensures

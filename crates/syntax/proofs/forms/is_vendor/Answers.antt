@@ -1,39 +1,34 @@
--- Every character passed belongs to a vendor, and none was the colon.
-use mathlib.Core.Path.{sym, ◌∙◌}
-use Rattle.syntax.proofs.Laws.Forms.{vendor_none, vendor_first, vendor_stop}
-use Rattle.syntax.proofs.Laws.Forms.{tail_colon, tail_next, tail_stop, tail_end}
-use Rattle.syntax.proofs.Laws.Each.{each_tail}
+-- The first character that belongs to no vendor is the colon, or there is no vendor.
+use Rattle.std.proofs.Common.{◌≡◌, ◌∙◌, rules, tests, arith}
+use Rattle.std.proofs.lemmas.Iterator.{YieldsList-from_slice}
+use Rattle.std.proofs.lemmas.Iterator.Search.{position_from_yields_List}
+use Rattle.std.specs.List.{position}
+use Rattle.syntax.proofs.Laws.Each.{no_vendor, vendor_over, vendor_zero, vendor_other, vendor_name}
+use Rattle.syntax.proofs.forms.is_vendor.Goals.{then-end-eq0-via-then-end-eq0}
+use Rattle.syntax.proofs.forms.is_vendor.Goals.{then-end-eq0-via-else-end-eq0+then-cs-end-ne-COLON}
 use Rattle.syntax.proofs.forms.is_vendor.Goals as goal
 
-pub returns-then-cs-eq0 : goal.returns-then-cs-eq0
-returns-then-cs-eq0 c = sym (vendor_none c.args.cs.now c.if-cs-eq0.true)
+pub returns-in_default : goal.returns-in_default
+returns-in_default c =
+    let found : c.position.result ≡ position no_vendor c.args.cs.now =
+    position_from_yields_List no_vendor _ _ c.position.result c.position.ensures.ran
+    (YieldsList-from_slice _ c.iter.ensures.rest) (λ x b q k. search (rules, tests)) in
+    vendor_over c.args.cs.now found c.in_default.is
 
-pub returns-then-not-is_vendor_char : goal.returns-then-not-is_vendor_char
-returns-then-not-is_vendor_char c =
-    sym (vendor_stop c.args.cs.now c.if-cs-eq0.false
-    (sym c.is_vendor_char.ensures ∙ c.if-not-is_vendor_char.true))
-
-pub loop-i-init : goal.loop-i-init
-loop-i-init c =
-    vendor_first c.args.cs.now c.if-cs-eq0.false
-    (sym c.is_vendor_char.ensures ∙ c.if-not-is_vendor_char.false)
-    ∙ each_tail c.args.cs.now c.past_alphanumeric-i.ensures
-
-pub returns-then-c-eq58 : goal.returns-then-c-eq58
-returns-then-c-eq58 c =
-    c.is_name.ensures ∙ sym (c.loop-i.invariant ∙ tail_colon c.args.cs.now c.loop-i.i
-    c.loop-i-test.true c.if-c-eq58.true)
-
-pub returns-then-not-is_vendor_char-2 : goal.returns-then-not-is_vendor_char-2
-returns-then-not-is_vendor_char-2 c =
-    sym (c.loop-i.invariant ∙ tail_stop c.args.cs.now c.loop-i.i c.loop-i-test.true
-    c.if-c-eq58.false (sym c.is_vendor_char-in-loop-i.ensures ∙ c.if-not-is_vendor_char-2.true))
-
-pub loop-i-preserved : goal.loop-i-preserved
-loop-i-preserved c =
-    c.loop-i.invariant ∙ tail_next c.args.cs.now c.loop-i.i c.loop-i-test.true
-    c.if-c-eq58.false (sym c.is_vendor_char-in-loop-i.ensures ∙ c.if-not-is_vendor_char-2.false)
+pub returns-then-end-eq0 : goal.returns-then-end-eq0
+returns-then-end-eq0 c =
+    let found : c.position.result ≡ position no_vendor c.args.cs.now =
+    position_from_yields_List no_vendor _ _ c.position.result c.position.ensures.ran
+    (YieldsList-from_slice _ c.iter.ensures.rest) (λ x b q k. search (rules, tests)) in
+    elim c.then-end-eq0.branch [
+      | then-end-eq0-via-then-end-eq0 w ↦ vendor_zero c.args.cs.now found c.in-Some.is w.if-end-eq0.true
+      | then-end-eq0-via-else-end-eq0+then-cs-end-ne-COLON w ↦
+          vendor_other c.args.cs.now found c.in-Some.is (omega arith) w.if-cs-end-ne-COLON.true
+    ]
 
 pub returns : goal.returns
 returns c =
-    sym (c.loop-i.invariant ∙ tail_end c.args.cs.now c.loop-i.i c.loop-i-test.false)
+    let found : c.position.result ≡ position no_vendor c.args.cs.now =
+    position_from_yields_List no_vendor _ _ c.position.result c.position.ensures.ran
+    (YieldsList-from_slice _ c.iter.ensures.rest) (λ x b q k. search (rules, tests)) in
+    c.is_name.ensures ∙ vendor_name c.args.cs.now found c.in-Some.is (omega arith) c.if-cs-end-ne-COLON.false

@@ -5,7 +5,7 @@ use Rattle.syntax.specs.Forms.{Each, is_alphanumeric}
 use Rattle.syntax.proofs.forms.past_eights.Given as goal
 
 abbrev pub invariant-loop-i : goal.invariant-loop-i
-invariant-loop-i l = Each is_alphanumeric l.cs l.at l.i
+invariant-loop-i l = Each is_alphanumeric l.cs 0 l.i
 
 abbrev pub decreases-loop-i : goal.decreases-loop-i
 decreases-loop-i l = length l.cs - l.i

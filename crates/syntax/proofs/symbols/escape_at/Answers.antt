@@ -1,5 +1,4 @@
 -- The brace behind and the character between decide.
-use native.Mathlib.Omega.{arith}
 use Rattle.syntax.proofs.Laws.Symbols.{says_unclosed, says_unknown, says_escape}
 use Rattle.chars.proofs.Laws.Tests.{among, outside}
 use mathlib.Core.List.{[], ◌∷◌}
@@ -7,20 +6,14 @@ use Rattle.chars.specs.Base.{one_of}
 use mathlib.Core.Path.{ap, sym, ◌∙◌}
 use Rattle.syntax.proofs.symbols.escape_at.Goals as goal
 
-pub character-requires : goal.character-requires
-character-requires c = omega (arith, c.requires.inside)
-
-pub returns-then-character-ne125 : goal.returns-then-character-ne125
-returns-then-character-ne125 c =
-    says_unclosed c.args.wild c.args.cs.now c.args.i c.requires (λ e. c.if-character-ne125.true (c.character.ensures ∙ e))
-
-pub character-c-requires : goal.character-c-requires
-character-c-requires c = omega (arith, c.requires.inside)
+pub returns-then-character-ne-CLOSING : goal.returns-then-character-ne-CLOSING
+returns-then-character-ne-CLOSING c =
+    says_unclosed c.args.wild c.args.cs.now c.args.i c.requires (λ e. c.if-character-ne-CLOSING.true (c.character.ensures ∙ e))
 
 pub returns-in-36 : goal.returns-in-36
 returns-in-36 c =
     says_escape c.args.wild c.args.cs.now c.args.i c.requires
-    (sym c.character.ensures ∙ c.if-character-ne125.false)
+    (sym c.character.ensures ∙ c.if-character-ne-CLOSING.false)
     c.character-c.ensures (among (36 ∷ 42 ∷ 63 ∷ []) _ c.in-36.is)
 
 pub returns-in_default : goal.returns-in_default

@@ -1,26 +1,16 @@
 -- What is no dollar with a brace behind it says itself.
-use native.Mathlib.Omega.{arith}
 use Rattle.syntax.proofs.Laws.Symbols.{says_plain, says_dollar}
-use mathlib.Core.Path.{sym, ◌∙◌}
+use mathlib.Core.Path.{◌∙◌}
+use Rattle.syntax.proofs.symbols.symbol_at.Goals.{else-c-eq-DOLLAR-via-then-c-eq-DOLLAR+else-character-eq-OPENING}
+use Rattle.syntax.proofs.symbols.symbol_at.Goals.{else-c-eq-DOLLAR-via-else-c-eq-DOLLAR}
 use Rattle.syntax.proofs.symbols.symbol_at.Goals as goal
 
-pub returns-then-c-ne36 : goal.returns-then-c-ne36
-returns-then-c-ne36 c =
-    says_plain c.args.wild c.args.cs.now c.args.i c.requires c.if-c-ne36.true c.symbol.ensures
-
-pub character-requires : goal.character-requires
-character-requires c = omega arith
-
-pub returns-then-character-ne123 : goal.returns-then-character-ne123
-returns-then-character-ne123 c =
-    says_dollar c.args.wild c.args.cs.now c.args.i c.requires
-    (λ e. c.if-character-ne123.true (c.character.ensures ∙ e)) c.symbol-then-character-ne123.ensures
-
-pub escape_at-requires : goal.escape_at-requires
-escape_at-requires c =
-    let brace = sym c.character.ensures ∙ c.if-character-ne123.false in
-    record
-    { inside = c.requires; dollar = c.if-c-ne36.false; brace = brace }
-
 pub returns : goal.returns
-returns c = c.escape_at.ensures
+returns c =
+    elim c.else-c-eq-DOLLAR.branch [
+      | else-c-eq-DOLLAR-via-then-c-eq-DOLLAR+else-character-eq-OPENING w ↦
+          says_dollar c.args.wild c.args.cs.now c.args.i c.requires
+          (λ e. w.if-character-eq-OPENING.false (w.character.ensures ∙ e)) c.symbol.ensures
+      | else-c-eq-DOLLAR-via-else-c-eq-DOLLAR w ↦
+          says_plain c.args.wild c.args.cs.now c.args.i c.requires w.if-c-eq-DOLLAR.false c.symbol.ensures
+    ]

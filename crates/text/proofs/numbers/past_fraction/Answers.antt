@@ -2,8 +2,9 @@
 use mathlib.Core.Path.{refl}
 use mathlib.Core.List.{[], ◌∷◌}
 use native.Mathlib.Omega.{arith}
+use borrow.Author.Rules.{rules}
 use Rattle.text.specs.Machine.{digit, digits, fraction, exponent, optional}
-use Rattle.text.proofs.Laws.Reading.{seq, frame, goes_seq, past, failed, takes, alike, skips}
+use Rattle.text.proofs.Laws.Reading.{seq, frame, fall, fall_frame, goes_seq, takes, alike, skips}
 use Rattle.text.proofs.Laws.Moves.Numbers.{fraction_is, fraction_not}
 use Rattle.text.proofs.Laws.Moves.Owing.{same_move}
 use Rattle.text.proofs.numbers.past_fraction.Goals as goal
@@ -18,19 +19,13 @@ returns-then-b-ne46 c =
     (alike (fraction ∷ []) (exponent ∷ []) c.if-s-at.false
     (same_move _ fraction exponent (fraction_not _ c.if-b-ne46.true))) c.past_exponent.ensures
 
-pub returns-in_default : goal.returns-in_default
-returns-in_default c =
-    failed (digit ∷ digits ∷ []) (exponent ∷ []) _ _ c.in_default.is
-    (takes fraction [] (digit ∷ digits ∷ exponent ∷ []) c.if-s-at.false (fraction_is _ c.if-b-ne46.false))
-    c.one_or_more-r.ensures
-
-pub past_exponent-requires-2 : goal.past_exponent-requires-2
-past_exponent-requires-2 c =
-    (past (digit ∷ digits ∷ []) _ _ c.in-Past.is c.one_or_more-r.ensures).high
+pub returns-in_err-n : goal.returns-in_err-n
+returns-in_err-n c =
+    let dot = takes fraction [] (digit ∷ digits ∷ exponent ∷ []) c.if-s-at.false (fraction_is _ c.if-b-ne46.false) in
+    let stops = fall dot (fall_frame (exponent ∷ []) c.in_err-n.ensures) in
+    search rules
 
 pub returns : goal.returns
 returns c =
-    goes_seq c.past_exponent-2.result
-    (seq (takes fraction [] (digit ∷ digits ∷ exponent ∷ []) c.if-s-at.false (fraction_is _ c.if-b-ne46.false))
-    (frame (exponent ∷ []) (past (digit ∷ digits ∷ []) _ _ c.in-Past.is c.one_or_more-r.ensures)))
-    c.past_exponent-2.ensures
+    let dot = takes fraction [] (digit ∷ digits ∷ exponent ∷ []) c.if-s-at.false (fraction_is _ c.if-b-ne46.false) in
+    goes_seq c.past_exponent-2.result (seq dot (frame (exponent ∷ []) c.in_ok-n.ensures)) c.past_exponent-2.ensures

@@ -1,5 +1,5 @@
 -- `front` opens a level for members, members ask `front` for values of as many levels as they were given: twice the
--- levels, and one more for members, falls. At each turn a member is due, if a name stands there; else `back` is told.
+-- levels, and one more for members, falls. At each turn a member is due, if a name stands there; else what was read is told.
 use Rattle.std.proofs.Common.{◌+◌, ◌-◌, ◌*◌, length}
 use Rattle.text.specs.declared.scan.Shape.TheVariants.{Object}
 use Rattle.text.proofs.Laws.Quick.{Strung}
@@ -11,8 +11,8 @@ decreases-front l = 2 * l.left
 abbrev pub decreases-members_of : goal.decreases-members_of
 decreases-members_of l = 2 * l.left + 1
 
-abbrev pub invariant-members_of-loop-at : goal.invariant-members_of-loop-at
-invariant-members_of-loop-at l = Strung l.s Object l.left l.at l.i l.back
+abbrev pub invariant-members_of-loop-v : goal.invariant-members_of-loop-v
+invariant-members_of-loop-v l = Strung l.s Object l.left l.at l.i l.read
 
-abbrev pub decreases-members_of-loop-at : goal.decreases-members_of-loop-at
-decreases-members_of-loop-at l = length l.s - l.i
+abbrev pub decreases-members_of-loop-v : goal.decreases-members_of-loop-v
+decreases-members_of-loop-v l = length l.s - l.i

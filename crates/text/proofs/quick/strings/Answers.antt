@@ -1,57 +1,42 @@
--- At each turn a string is due, if a quote stands there; else `back` is answered.
-use mathlib.Core.Path.{refl}
-use native.Mathlib.Omega.{arith}
+-- At each turn a string is due, if a quote stands there; else what was read is answered.
+use mathlib.Core.Path.{refl, ◌∙◌}
+use borrow.Author.Rules.{rules}
 use Rattle.chars.specs.Base.{At}
 use Rattle.text.proofs.Laws.Quick.{strung_first, strung_close, strung_more, string_value}
 use Rattle.text.proofs.Laws.Values.{before_list}
 use Rattle.text.proofs.quick.strings.Goals as goal
 
-pub loop-i-init : goal.loop-i-init
-loop-i-init c n = strung_first c.space-i.ensures
+pub loop-read-init : goal.loop-read-init
+loop-read-init c n = strung_first c.space-i.ensures
 
-pub returns-then-s-i : goal.returns-then-s-i
-returns-then-s-i c n = (c.loop-i.invariant n).told
+pub returns-in_default : goal.returns-in_default
+returns-in_default c n = (c.loop-read.invariant n).told
 
-pub returns-then-s-i-ne34 : goal.returns-then-s-i-ne34
-returns-then-s-i-ne34 c n = (c.loop-i.invariant n).told
+pub returns-in_default-2 : goal.returns-in_default-2
+returns-in_default-2 c n = (c.loop-read.invariant n).told
 
-pub returns-then-e-eq0 : goal.returns-then-e-eq0
-returns-then-e-eq0 c n = (c.loop-i.invariant n).told
+pub returns-in_default-string : goal.returns-in_default-string
+returns-in_default-string c n = (c.loop-read.invariant n).told
 
-pub space-c-requires : goal.space-c-requires
-space-c-requires c = (c.string-e.ensures.done c.if-e-eq0.false).high
+pub returns-in_default-get : goal.returns-in_default-get
+returns-in_default-get c n = (c.loop-read.invariant n).told
 
-pub returns-then-s-c : goal.returns-then-s-c
-returns-then-s-c c n = (c.loop-i.invariant n).told
+pub returns-in_default-get-2 : goal.returns-in_default-get-2
+returns-in_default-get-2 c n = (c.loop-read.invariant n).told
 
-pub returns-then-s-c-eq93 : goal.returns-then-s-c-eq93
-returns-then-s-c-eq93 c n =
-    let read = c.string-e.ensures.done c.if-e-eq0.false in
-    let quote : At _ _ 34 =
-    record { inside = c.if-s-i.false; is = c.if-s-i-ne34.false } in
-    strung_close (c.loop-i.invariant n) quote (before_list refl (c.loop-i.invariant n).high) (string_value n quote read)
-    c.space-c.ensures c.if-s-c.false c.if-s-c-eq93.true
+pub returns-in-Some-eq93 : goal.returns-in-Some-eq93
+returns-in-Some-eq93 c n =
+    let q : At c.args.s.now c.loop-read.i c.in-Some-eq34.field-0.now = search rules in
+    let p : At c.args.s.now c.space-c.result c.in-Some-eq93.field-0.now = search rules in
+    let w = c.loop-read.invariant n in
+    strung_close w (record { inside = q.inside; is = q.is ∙ c.in-Some-eq34.field-0-test }) (before_list refl w.high)
+    (string_value n q c.in-Some-eq34.field-0-test c.in-Ok.ensures) c.space-c.ensures p c.in-Some-eq93.field-0-test
 
-pub returns-then-s-c-ne44 : goal.returns-then-s-c-ne44
-returns-then-s-c-ne44 c n =
-    (c.loop-i.invariant n).told
-
-pub loop-i-smaller : goal.loop-i-smaller
-loop-i-smaller c =
-    let read = c.string-e.ensures.done c.if-e-eq0.false in
-    omega (
-      arith,
-      read.low,
-      c.space-c.ensures.low,
-      c.space-i-in-loop-i.ensures.low,
-      c.space-i-in-loop-i.ensures.high,
-    )
-
-pub loop-i-preserved : goal.loop-i-preserved
-loop-i-preserved c n =
-    let read = c.string-e.ensures.done c.if-e-eq0.false in
-    let quote : At _ _ 34 =
-    record { inside = c.if-s-i.false; is = c.if-s-i-ne34.false } in
-    strung_more (c.loop-i.invariant n) quote (before_list refl (c.loop-i.invariant n).high) (string_value n quote read)
-    c.space-c.ensures c.if-s-c.false c.if-s-c-ne44.false
-    c.space-i-in-loop-i.ensures
+pub loop-read-preserved : goal.loop-read-preserved
+loop-read-preserved c n =
+    let q : At c.args.s.now c.loop-read.i c.in-Some-eq34.field-0.now = search rules in
+    let p : At c.args.s.now c.space-c.result c.in-Some-eq44.field-0.now = search rules in
+    let w = c.loop-read.invariant n in
+    strung_more w (record { inside = q.inside; is = q.is ∙ c.in-Some-eq34.field-0-test }) (before_list refl w.high)
+    (string_value n q c.in-Some-eq34.field-0-test c.in-Ok.ensures) c.space-c.ensures p c.in-Some-eq44.field-0-test
+    c.space-i-in-Some-eq44.ensures

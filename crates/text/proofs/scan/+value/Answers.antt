@@ -1,30 +1,29 @@
 -- The first inner value takes one of the levels left, so `left` falls at each call; the loop's place is always that
 -- of an inner value owed.
-use mathlib.Core.List.{[], ◌∷◌}
-use Prim.Native.Nat.{◌-◌}
 use native.Mathlib.Omega.{arith}
-use Rattle.text.specs.Machine.{value as valued}
-use Rattle.text.proofs.Laws.Reading.{past}
+use borrow.Author.Rules.{rules}
 use Rattle.text.proofs.Laws.Values.{inner_more, inner_later, inner_closed, inner_stops}
 use Rattle.text.proofs.scan.+value.Goals as goal
 
+pub returns-in_err-m-in-Inner : goal.returns-in_err-m-in-Inner
+returns-in_err-m-in-Inner t c =
+    let stops = inner_stops c.loop-n.invariant c.in_ok-n-in-Inner.ensures c.in_err-m-in-Inner.ensures in
+    search rules
+
 pub loop-n-smaller : goal.loop-n-smaller
 loop-n-smaller t c =
-    let inner = past (valued (c.args.left - 1) ∷ []) _ _ c.in-Past.is c.value-r.ensures in
-    let later = inner_later c.loop-n.invariant inner _ c.follow-q.ensures _ c.in-Inner-q.is in
-    omega (arith, later, (inner_more c.loop-n.invariant inner _ c.follow-q.ensures _ c.in-Inner-q.is).leads.high)
+    let d = c.in_ok-n-in-Inner.ensures in
+    let f = c.in_ok-m-in-Inner.ensures in
+    omega (
+      arith,
+      inner_later c.loop-n.invariant d f c.in-Inner-2.is,
+      (inner_more c.loop-n.invariant d f c.in-Inner-2.is).leads.high,
+    )
 
 pub loop-n-preserved : goal.loop-n-preserved
 loop-n-preserved t c =
-    let inner = past (valued (c.args.left - 1) ∷ []) _ _ c.in-Past.is c.value-r.ensures in
-    inner_more c.loop-n.invariant inner _ c.follow-q.ensures _ c.in-Inner-q.is
+    inner_more c.loop-n.invariant c.in_ok-n-in-Inner.ensures c.in_ok-m-in-Inner.ensures c.in-Inner-2.is
 
 pub returns-in-Closed : goal.returns-in-Closed
 returns-in-Closed t c =
-    let inner = past (valued (c.args.left - 1) ∷ []) _ _ c.in-Past.is c.value-r.ensures in
-    inner_closed c.loop-n.invariant inner _ c.follow-q.ensures _ c.in-Closed.is
-
-pub returns-in-Fails : goal.returns-in-Fails
-returns-in-Fails t c =
-    let inner = past (valued (c.args.left - 1) ∷ []) _ _ c.in-Past.is c.value-r.ensures in
-    inner_stops c.loop-n.invariant inner _ c.follow-q.ensures _ c.in-Fails.is
+    inner_closed c.loop-n.invariant c.in_ok-n-in-Inner.ensures c.in_ok-m-in-Inner.ensures c.in-Closed.is

@@ -1,5 +1,6 @@
 -- Behind the white space stands the closing byte, or a comma and what leads to another inner value.
 use mathlib.Core.Path.{sym, ◌∙◌}
+use borrow.Author.Rules.{rules}
 use Rattle.text.proofs.Laws.Values.{follow_short, follow_close, follow_wrong, follow_inner, follow_fails}
 use Rattle.text.proofs.scan.follow.Goals as goal
 
@@ -15,13 +16,11 @@ returns-then-b-ne44 c =
     follow_wrong c.space-i.ensures c.if-s-i.false (λ e. c.if-b-closer.false (e ∙ sym c.closer.ensures))
     c.if-b-ne44.true
 
-pub heading-r-requires : goal.heading-r-requires
-heading-r-requires c = c.space-j.ensures.high
+pub returns-in_err-inner : goal.returns-in_err-inner
+returns-in_err-inner c =
+    let stops = follow_fails c.space-i.ensures c.if-s-i.false c.if-b-ne44.false c.space-j.ensures c.in_err-inner.ensures in
+    search rules
 
-pub returns-in-Past : goal.returns-in-Past
-returns-in-Past c =
-    follow_inner c.space-i.ensures c.if-s-i.false c.if-b-ne44.false c.space-j.ensures _ c.heading-r.ensures _ c.in-Past.is
-
-pub returns-in-Fails : goal.returns-in-Fails
-returns-in-Fails c =
-    follow_fails c.space-i.ensures c.if-s-i.false c.if-b-ne44.false c.space-j.ensures _ c.heading-r.ensures _ c.in-Fails.is
+pub returns : goal.returns
+returns c =
+    follow_inner c.space-i.ensures c.if-s-i.false c.if-b-ne44.false c.space-j.ensures c.in_ok-inner.ensures

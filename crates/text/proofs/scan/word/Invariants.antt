@@ -1,13 +1,9 @@
--- The bytes of w from `j` on are still owed.
+-- The bytes of w that are not read yet are still owed.
 use mathlib.Core.List.{map}
-use Prim.Native.Nat.{◌≤◌, ◌-◌}
-use lib.ListN.{length, drop}
+use lib.ListN.{drop}
 use Rattle.text.specs.Reading.{Leads}
 use Rattle.text.specs.Machine.{byte}
 use Rattle.text.proofs.scan.word.Given as goal
 
-abbrev pub invariant-loop-j : goal.invariant-loop-j
-invariant-loop-j l = (l.j ≤ length l.w) × Leads l.s (map byte l.w) l.at (map byte (drop l.j l.w)) l.i
-
-abbrev pub decreases-loop-j : goal.decreases-loop-j
-decreases-loop-j l = length l.w - l.j
+abbrev pub invariant-loop-x : goal.invariant-loop-x
+invariant-loop-x l = Leads l.s (map byte l.w) l.at (map byte (drop l.x-index l.w)) l.i

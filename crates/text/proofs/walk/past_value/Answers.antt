@@ -1,4 +1,5 @@
 -- A list or an object is closed where it ends, a string at its quote.
+use mathlib.Core.Logic.{⊎_elim}
 use native.Mathlib.Omega.{arith}
 use Rattle.text.proofs.Laws.Contents.{stands_inside, opened_done}
 use Rattle.text.proofs.Laws.Skipping.{list_closes, object_closes}
@@ -9,11 +10,7 @@ bounds-s-v c = stands_inside c.requires.is
 
 pub past_closed-requires : goal.past_closed-requires
 past_closed-requires c =
-    record { stop = c.requires.stop; closes = list_closes c.in-91.is c.requires.is }
-
-pub past_closed-requires-in-123 : goal.past_closed-requires-in-123
-past_closed-requires-in-123 c =
-    record { stop = c.requires.stop; closes = object_closes c.in-123.is c.requires.is }
+    record { stop = c.requires.stop; closes = ⊎_elim (λ z. list_closes z c.requires.is) (λ z. object_closes z c.requires.is) c.in-91.is }
 
 pub overflow_add-v : goal.overflow_add-v
 overflow_add-v c = let h = stands_inside c.requires.is in omega arith
@@ -26,10 +23,9 @@ pub past_leaf-requires : goal.past_leaf-requires
 past_leaf-requires c = c.requires
 
 pub returns-in-91 : goal.returns-in-91
-returns-in-91 c = λ t e p. c.past_closed.ensures e (list_closes c.in-91.is p)
-
-pub returns-in-123 : goal.returns-in-123
-returns-in-123 c = λ t e p. c.past_closed-in-123.ensures e (object_closes c.in-123.is p)
+returns-in-91 c =
+    λ t e p.
+    c.past_closed.ensures e (⊎_elim (λ z. list_closes z p) (λ z. object_closes z p) c.in-91.is)
 
 pub returns-in-34 : goal.returns-in-34
 returns-in-34 c = λ t e p. c.past_quote.ensures e (opened_done c.in-34.is p)

@@ -1,6 +1,6 @@
 -- Each turn puts one entry behind those before it; whichever entries lie at the place are the ones put.
 use Prim.{tt}
-use mathlib.Core.Path.{refl, ◌∙◌}
+use mathlib.Core.Path.{refl}
 use native.Mathlib.Omega.{arith}
 use Rattle.held.proofs.Laws.Runs.{lies_inside}
 use Rattle.writing.specs.Bytes.{listed, list_bytes}
@@ -23,8 +23,8 @@ overflow_add-e c =
 pub loop-i-init : goal.loop-i-init
 loop-i-init c = λ xs k l u. telling_start xs k l u
 
-pub put_entry-next-requires : goal.put_entry-next-requires
-put_entry-next-requires c =
+pub put_entry-requires : goal.put_entry-requires
+put_entry-requires c =
     telling_lying (list_told c.requires.thing c.requires.lies tt c.loop-i.invariant)
     c.loop-i-test.true
 
@@ -33,29 +33,15 @@ past_value-e-requires c =
     telling_lying (list_told c.requires.thing c.requires.lies tt c.loop-i.invariant)
     c.loop-i-test.true
 
-pub overflow_add-i : goal.overflow_add-i
-overflow_add-i c =
-    omega (
-      arith,
-      c.loop-i-test.true,
-      c.shared_slice_known-2-1.given
-          c.args.at,
-    )
-
 pub loop-i-preserved : goal.loop-i-preserved
 loop-i-preserved c =
-    λ xs k l _. telling_next (c.loop-i.invariant xs k l tt) c.loop-i-test.true _ _ _ _
+    λ xs k l _. telling_next (c.loop-i.invariant xs k l tt) c.loop-i-test.true _ _ _
     (λ x ys m _. listed_piece _ (c.loop-i.invariant xs k l tt) x ys (c.past_value-e.ensures x m)
-    c.put_between-before.ensures (c.put_entry-next.ensures x m))
-
-pub shape_of-out : goal.shape_of-out
-shape_of-out c =
-    c.put.ensures.size ∙ (list_told c.requires.thing c.requires.lies tt
-    c.loop-i.invariant).adds.size ∙ c.put-next.ensures.size
+    c.put_between.ensures (c.put_entry.ensures x m))
 
 pub returns : goal.returns
 unfolding list_bytes listed
 returns c =
-    λ xs l. adds_then c.put-next.ensures
+    λ xs l. adds_then c.put.ensures
     (adds_then (telling_end (list_told xs l tt c.loop-i.invariant) c.loop-i-test.false refl)
-    c.put.ensures)
+    c.put-2.ensures)

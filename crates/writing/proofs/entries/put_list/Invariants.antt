@@ -7,7 +7,7 @@ use Rattle.writing.proofs.entries.put_list.Given as goal
 
 abbrev pub invariant-loop-i : goal.invariant-loop-i
 invariant-loop-i l =
-    Tellings held_value (listed (entry_bytes l.kind)) Freely 0 l.run (l.at + 1) l.initial.out l.initial.next l.n l.i l.e l.i l.out l.next
+    Tellings held_value (listed (entry_bytes l.kind)) Freely 0 l.run (l.at + 1) l.initial.sink l.n l.i l.e l.i l.sink
 
 abbrev pub decreases-loop-i : goal.decreases-loop-i
 decreases-loop-i l = l.n - l.i

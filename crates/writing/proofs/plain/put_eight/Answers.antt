@@ -1,39 +1,26 @@
--- Each turn puts one character behind those before it, until they are eight.
-use mathlib.Core.Path.{◌≡◌, subst}
-use Prim.Native.Nat.{ℕ, ◌+◌}
+-- Each turn stores one character.
+use mathlib.Core.Path.{ap, ◌∙◌}
+use mathlib.Core.List.{List, ◌++◌, append-nil}
+use Prim.Native.Nat.{ℕ}
 use native.Mathlib.Omega.{arith}
-use Rattle.chars.specs.Base.{part}
-use Rattle.writing.specs.Showing.{Adds}
-use Rattle.writing.proofs.Laws.Plain.{plain_at, bytes_none, bytes_next}
-use borrow.Author.Rules.{rules}
+use lib.ListN.{take, drop_of_length-le}
+use lib.Seq.{take_all}
+use Rattle.writing.proofs.Laws.Plain.{all_at, put_start, put_next}
 use Rattle.writing.proofs.plain.put_eight.Goals as goal
 
 pub loop-j-init : goal.loop-j-init
-loop-j-init c =
-    (search rules, bytes_none c.args.ys.now c.args.i c.args.out.now c.args.at)
+loop-j-init c = put_start _ _
 
 pub overflow_cast-out : goal.overflow_cast-out
 overflow_cast-out c =
-    let p = plain_at c.args.ys.now c.args.i 8 c.loop-j.j c.requires.1
-    c.requires.2 (omega arith) in
-    record { fits = omega (arith, p.small) }
-
-pub bounds-out-at : goal.bounds-out-at
-bounds-out-at c =
-    omega (arith, c.loop-j.invariant.1.size, c.requires.0)
+    let p = all_at c.loop-j.j c.requires.2 (omega arith) in record { fits = omega (arith, p.small) }
 
 pub loop-j-preserved : goal.loop-j-preserved
-loop-j-preserved c = (
-  omega arith,
-  bytes_next c.args.ys.now c.args.i c.loop-j.j c.loop-j.invariant.1 (omega (arith, c.requires.1))
-      (omega (arith, c.requires.0, c.loop-j.invariant.1.size)),
-)
-
-pub shape_of-out : goal.shape_of-out
-shape_of-out c = c.loop-j.invariant.1.size
+loop-j-preserved c =
+    put_next c.loop-j.invariant (omega arith) (omega (arith, c.loop-j.auto.out)) (all_at c.loop-j.j c.requires.2 (omega arith))
 
 pub returns : goal.returns
 returns c =
-    let e : c.loop-j.j ≡ 8 = omega arith in
-    subst (λ (k : ℕ). Adds (part c.args.ys.now c.args.i (c.args.i + k)) c.args.out.now c.args.at (c.args.at + k) c.loop-j.out)
-    e c.loop-j.invariant.1
+    let w = c.loop-j.invariant in
+    w.is ∙ ap (λ (l : List ℕ). take c.loop-j.j c.args.ys.now ++ l) (drop_of_length-le c.args.out.now {i = c.loop-j.j} (omega arith))
+    ∙ append-nil (take c.loop-j.j c.args.ys.now) ∙ take_all c.loop-j.j c.args.ys.now (omega arith)

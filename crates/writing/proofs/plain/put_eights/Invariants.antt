@@ -5,7 +5,7 @@ use Rattle.writing.specs.Plain.{PlainPut}
 use Rattle.writing.proofs.plain.put_eights.Given as goal
 
 abbrev pub invariant-loop-n : goal.invariant-loop-n
-invariant-loop-n l = PlainPut l.ys l.i l.n l.initial.out l.at l.out
+invariant-loop-n l = PlainPut l.ys l.n l.initial.out l.out
 
 abbrev pub decreases-loop-n : goal.decreases-loop-n
-decreases-loop-n l = length l.ys - l.i - l.n
+decreases-loop-n l = length l.ys - l.n

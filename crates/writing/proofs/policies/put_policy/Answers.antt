@@ -1,6 +1,6 @@
 -- Each turn puts one statement behind those before it.
 use Prim.{tt}
-use mathlib.Core.Path.{refl, ◌∙◌}
+use mathlib.Core.Path.{refl}
 use native.Mathlib.Omega.{arith}
 use Rattle.writing.specs.Bytes.{listed}
 use Rattle.writing.proofs.Laws.Showing.{adds_as, adds_then}
@@ -20,8 +20,8 @@ overflow_cast-n c = omega (arith, c.shared_slice_known-2-1.given 0)
 pub loop-i-init : goal.loop-i-init
 loop-i-init c = λ xs k l u. telling_start xs k l u
 
-pub put_statement-next-requires : goal.put_statement-next-requires
-put_statement-next-requires c =
+pub put_statement-requires : goal.put_statement-requires
+put_statement-requires c =
     telling_lying (list_told c.requires.thing (policy_lies c.requires.thing c.requires.lies) tt
     c.loop-i.invariant) c.loop-i-test.true
 
@@ -30,28 +30,17 @@ statement-p-requires c =
     telling_lying (list_told c.requires.thing (policy_lies c.requires.thing c.requires.lies) tt
     c.loop-i.invariant) c.loop-i-test.true
 
-pub overflow_add-i : goal.overflow_add-i
-overflow_add-i c =
-    omega (arith, c.loop-i-test.true, c.shared_slice_known-2-1.given 0)
-
 pub loop-i-preserved : goal.loop-i-preserved
 loop-i-preserved c =
-    λ xs k l _. telling_next (c.loop-i.invariant xs k l tt) c.loop-i-test.true _ _ _ _
+    λ xs k l _. telling_next (c.loop-i.invariant xs k l tt) c.loop-i-test.true _ _ _
     (λ x ys m _. listed_piece _ (c.loop-i.invariant xs k l tt) x ys (c.statement-p.ensures x m).past
-    c.put_between-before.ensures (c.put_statement-next.ensures x m))
-
-pub shape_of-out : goal.shape_of-out
-shape_of-out c =
-    c.put_bytes.ensures.size ∙
-    (list_told c.requires.thing (policy_lies c.requires.thing c.requires.lies) tt
-    c.loop-i.invariant).adds.size
-    ∙ c.put_bytes-next.ensures.size
+    c.put_between.ensures (c.put_statement.ensures x m))
 
 pub returns : goal.returns
 unfolding listed
 returns c =
     λ xs l.
     let m = policy_lies xs l in
-    adds_as (policy_bytes_lem xs) (adds_then c.put_bytes-next.ensures
+    adds_as (policy_bytes_lem xs) (adds_then c.put_bytes.ensures
     (adds_then (telling_end (list_told xs m tt c.loop-i.invariant) c.loop-i-test.false refl)
-    c.put_bytes.ensures))
+    c.put_bytes-2.ensures))

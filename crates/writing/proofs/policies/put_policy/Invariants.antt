@@ -7,7 +7,7 @@ use Rattle.writing.proofs.policies.put_policy.Given as goal
 
 abbrev pub invariant-loop-i : goal.invariant-loop-i
 invariant-loop-i l =
-    Tellings held_statement (listed statement_bytes) Freely 0 l.run 1 l.initial.out l.initial.next l.n l.i l.p l.i l.out l.next
+    Tellings held_statement (listed statement_bytes) Freely 0 l.run 1 l.initial.sink l.n l.i l.p l.i l.sink
 
 abbrev pub decreases-loop-i : goal.decreases-loop-i
 decreases-loop-i l = l.n - l.i

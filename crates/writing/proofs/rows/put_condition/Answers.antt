@@ -11,11 +11,11 @@ bounds-run-at c = lies_inside c.requires.lies
 pub returns-then-run-at-eq0 : goal.returns-then-run-at-eq0
 returns-then-run-at-eq0 c = λ xs l. condition_none xs (sym (lies_first l) ∙ c.if-run-at-eq0.true)
 
-pub put_rows-rows-requires : goal.put_rows-rows-requires
-put_rows-rows-requires c = c.requires
+pub put_rows-requires : goal.put_rows-requires
+put_rows-requires c = c.requires
 
 pub returns : goal.returns
 returns c =
     λ xs l. adds_as (condition_some xs (λ e. c.if-run-at-eq0.false (lies_first l ∙ e)))
-    (adds_then c.put_bytes-open.ensures
-    (adds_then (c.put_rows-rows.ensures xs l) c.put_bytes.ensures))
+    (adds_then c.put_bytes.ensures
+    (adds_then (c.put_rows.ensures xs l) c.put_bytes-2.ensures))

@@ -3,9 +3,8 @@ use Rattle.writing.proofs.Laws.Showing.{adds_as}
 use Rattle.writing.proofs.Laws.Pieces.{ending_none, ending_some}
 use Rattle.writing.proofs.rows.put_ending.Goals as goal
 
-pub returns-then-last-eq0 : goal.returns-then-last-eq0
-returns-then-last-eq0 c = ending_none c.if-last-eq0.true
+pub returns-then-last-ne0 : goal.returns-then-last-ne0
+returns-then-last-ne0 c = adds_as (ending_some _ c.if-last-ne0.true) c.put_bytes.ensures
 
-pub returns : goal.returns
-returns c =
-    adds_as (ending_some _ c.if-last-eq0.false) c.put_bytes.ensures
+pub returns-else-last-ne0 : goal.returns-else-last-ne0
+returns-else-last-ne0 c = ending_none c.if-last-ne0.false

@@ -29,12 +29,12 @@ overflow_add-to c =
           c.requires.lies).bounded,
     )
 
-pub slice_bounds-put_text-end : goal.slice_bounds-put_text-end
-slice_bounds-put_text-end c =
+pub slice_bounds-put_symbols-end : goal.slice_bounds-put_symbols-end
+slice_bounds-put_symbols-end c =
     (row_named c.requires.thing c.requires.lies).ends
 
 pub returns : goal.returns
 returns c =
-    λ x l. adds_as (name_alone (written_text x.key)) (adds_then c.put-open.ensures
-    (adds_then (adds_as (ap written_text (row_named x l).is) c.put_text-key.ensures)
+    λ x l. adds_as (name_alone (written_text x.key)) (adds_then c.put.ensures
+    (adds_then (adds_as (ap written_text (row_named x l).is) c.put_symbols.ensures)
     c.put_bytes.ensures))

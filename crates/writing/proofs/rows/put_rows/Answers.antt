@@ -20,62 +20,49 @@ pub overflow_add-p : goal.overflow_add-p
 overflow_add-p c =
     omega (arith, lies_inside c.requires.lies, c.requires.lies.bounded)
 
-pub loop-i-init : goal.loop-i-init
-loop-i-init c = λ xs k l u. telling_start xs k l u
+pub loop-init : goal.loop-init
+loop-init c = λ xs k l u. telling_start xs k l u
 
 pub offset_bounds-run-p : goal.offset_bounds-run-p
 offset_bounds-run-p c =
-    let r = telling_lying (list_told c.requires.thing c.requires.lies tt c.loop-i.invariant)
-    c.loop-i-test.true in
+    let r = telling_lying (list_told c.requires.thing c.requires.lies tt c.loop.invariant)
+    c.loop-test.true in
     omega (arith, row_inside r.thing r.lies, r.lies.bounded)
 
 pub bounds-run-p : goal.bounds-run-p
 bounds-run-p c =
-    let r = telling_lying (list_told c.requires.thing c.requires.lies tt c.loop-i.invariant)
-    c.loop-i-test.true in
+    let r = telling_lying (list_told c.requires.thing c.requires.lies tt c.loop.invariant)
+    c.loop-test.true in
     row_inside r.thing r.lies
 
-pub put_row-next-requires : goal.put_row-next-requires
-put_row-next-requires c =
-    telling_lying (list_told c.requires.thing c.requires.lies tt c.loop-i.invariant)
-    c.loop-i-test.true
+pub put_row-requires : goal.put_row-requires
+put_row-requires c =
+    telling_lying (list_told c.requires.thing c.requires.lies tt c.loop.invariant)
+    c.loop-test.true
 
-pub offset_bounds-run-p-in-loop-i : goal.offset_bounds-run-p-in-loop-i
-offset_bounds-run-p-in-loop-i c =
-    let r = telling_lying (list_told c.requires.thing c.requires.lies tt c.loop-i.invariant)
-    c.loop-i-test.true in
+pub offset_bounds-run-p-in-loop : goal.offset_bounds-run-p-in-loop
+offset_bounds-run-p-in-loop c =
+    let r = telling_lying (list_told c.requires.thing c.requires.lies tt c.loop.invariant)
+    c.loop-test.true in
     omega (arith, row_inside r.thing r.lies, r.lies.bounded)
 
-pub bounds-run-p-in-loop-i : goal.bounds-run-p-in-loop-i
-bounds-run-p-in-loop-i c =
-    let r = telling_lying (list_told c.requires.thing c.requires.lies tt c.loop-i.invariant)
-    c.loop-i-test.true in
+pub bounds-run-p-in-loop : goal.bounds-run-p-in-loop
+bounds-run-p-in-loop c =
+    let r = telling_lying (list_told c.requires.thing c.requires.lies tt c.loop.invariant)
+    c.loop-test.true in
     row_inside r.thing r.lies
 
 pub row-p-requires : goal.row-p-requires
 row-p-requires c =
-    telling_lying (list_told c.requires.thing c.requires.lies tt c.loop-i.invariant)
-    c.loop-i-test.true
+    telling_lying (list_told c.requires.thing c.requires.lies tt c.loop.invariant)
+    c.loop-test.true
 
-pub overflow_add-i : goal.overflow_add-i
-overflow_add-i c =
-    omega (
-      arith,
-      c.loop-i-test.true,
-      c.shared_slice_known-2-1.given
-          c.args.at,
-    )
-
-pub loop-i-preserved : goal.loop-i-preserved
-loop-i-preserved c =
-    λ xs k l _. telling_next (c.loop-i.invariant xs k l tt) c.loop-i-test.true _ _ _ _
-    (λ x ys m _. row_piece (c.loop-i.invariant xs k l tt) x ys (c.row-p.ensures x m).past (row_operator x m)
-    c.put_turning-before.ensures (c.put_row-next.ensures x m))
-
-pub shape_of-out : goal.shape_of-out
-shape_of-out c =
-    (list_told c.requires.thing c.requires.lies tt c.loop-i.invariant).adds.size
+pub loop-preserved : goal.loop-preserved
+loop-preserved c =
+    λ xs k l _. telling_next (c.loop.invariant xs k l tt) c.loop-test.true _ _ _
+    (λ x ys m _. row_piece (c.loop.invariant xs k l tt) x ys (c.row-p.ensures x m).past (row_operator x m)
+    c.put_turning.ensures (c.put_row.ensures x m))
 
 pub returns : goal.returns
 unfolding rows_from
-returns c = λ xs l. telling_end (list_told xs l tt c.loop-i.invariant) c.loop-i-test.false refl
+returns c = λ xs l. telling_end (list_told xs l tt c.loop.invariant) c.loop-test.false refl

@@ -10,6 +10,4 @@ returns-then-last-operator c =
 pub returns : goal.returns
 returns c =
     adds_as (turning_other _ _ c.if-last-operator.false)
-    (adds_then c.put_ending-ended.ensures
-    (adds_then c.put-open.ensures (adds_then c.put_operator-named.ensures
-    c.put_bytes.ensures)))
+    (adds_then c.put_ending.ensures (adds_then c.put-2.ensures (adds_then c.put_operator.ensures c.put_bytes.ensures)))

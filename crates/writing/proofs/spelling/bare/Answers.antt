@@ -1,16 +1,17 @@
 -- By the two wildcards.
+use native.Mathlib.Omega.{arith}
 use borrow.Author.Tests.{eq-eqb, ne_eqb}
 use Rattle.writing.specs.WrittenForm.{bare}
 use Rattle.writing.proofs.spelling.bare.Goals as goal
 
-pub returns-then-y-eq-STAR : goal.returns-then-y-eq-STAR
+pub returns-in-1114112 : goal.returns-in-1114112
 unfolding bare
-returns-then-y-eq-STAR c = simp (eq-eqb _ _ c.if-y-eq-STAR.true)
+returns-in-1114112 c = simp (eq-eqb _ _ c.in-1114112.is)
 
-pub returns-then-y-eq-ANY : goal.returns-then-y-eq-ANY
+pub returns-in-1114113 : goal.returns-in-1114113
 unfolding bare
-returns-then-y-eq-ANY c = simp (ne_eqb _ _ c.if-y-eq-STAR.false, eq-eqb _ _ c.if-y-eq-ANY.true)
+returns-in-1114113 c = simp (ne_eqb c.args.y 1114112 (λ e. omega arith), eq-eqb _ _ c.in-1114113.is)
 
-pub returns : goal.returns
+pub returns-in_default : goal.returns-in_default
 unfolding bare
-returns c = simp (ne_eqb _ _ c.if-y-eq-STAR.false, ne_eqb _ _ c.if-y-eq-ANY.false)
+returns-in_default c = simp (ne_eqb c.args.y 1114112 (λ e. omega arith), ne_eqb c.args.y 1114113 (λ e. omega arith))

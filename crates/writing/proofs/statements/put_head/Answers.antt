@@ -6,8 +6,8 @@ use Rattle.writing.specs.Bytes.{effect_bytes, head_bytes}
 use Rattle.writing.proofs.Laws.Showing.{adds_as, adds_then}
 use Rattle.writing.proofs.statements.put_head.Goals as goal
 
-pub put_sid-sid-requires : goal.put_sid-sid-requires
-put_sid-sid-requires c = statement_lying c.requires
+pub put_sid-requires : goal.put_sid-requires
+put_sid-requires c = statement_lying c.requires
 
 pub bounds-run-p : goal.bounds-run-p
 bounds-run-p c =
@@ -16,7 +16,7 @@ bounds-run-p c =
 pub returns : goal.returns
 unfolding head_bytes
 returns c =
-    λ x l. adds_then c.put-open.ensures (adds_then
-    (c.put_sid-sid.ensures (statement_labelled x) (statement_labelled_lem x l))
-    (adds_then (adds_as (ap effect_bytes (statement_effect x l)) c.put_effect-effect.ensures)
+    λ x l. adds_then c.put.ensures (adds_then
+    (c.put_sid.ensures (statement_labelled x) (statement_labelled_lem x l))
+    (adds_then (adds_as (ap effect_bytes (statement_effect x l)) c.put_effect.ensures)
     c.put_bytes.ensures))

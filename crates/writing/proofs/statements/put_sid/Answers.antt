@@ -41,16 +41,16 @@ overflow_add-to c =
           c.requires.lies).bounded,
     )
 
-pub slice_bounds-put_text-start : goal.slice_bounds-put_text-start
-slice_bounds-put_text-start c = omega arith
+pub slice_bounds-put_symbols-start : goal.slice_bounds-put_symbols-start
+slice_bounds-put_symbols-start c = omega arith
 
-pub slice_bounds-put_text-end : goal.slice_bounds-put_text-end
-slice_bounds-put_text-end c =
+pub slice_bounds-put_symbols-end : goal.slice_bounds-put_symbols-end
+slice_bounds-put_symbols-end c =
     (labelled c.requires.thing c.requires.lies).ends
 
 pub returns : goal.returns
 returns c =
     λ x l. adds_as (sid_some x.label (λ e. c.if-n-eq0.false ((labelled x l).count ∙ e)))
-    (adds_then c.put_bytes-open.ensures
-    (adds_then (adds_as (ap written_text (labelled x l).is) c.put_text-sid.ensures)
-    c.put_bytes.ensures))
+    (adds_then c.put_bytes.ensures
+    (adds_then (adds_as (ap written_text (labelled x l).is) c.put_symbols.ensures)
+    c.put_bytes-2.ensures))
