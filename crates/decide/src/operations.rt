@@ -8,6 +8,7 @@ ghost use Rattle.decide.specs.Operations.{Decides, RecordDecides};
 
 use decision::deciding;
 use decision::deciding::Decision;
+pub use policy::reading::{BRIEF, TERSE};
 use policy::refusals::Refusal;
 use policy::{reading, soon};
 

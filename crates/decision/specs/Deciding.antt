@@ -2,7 +2,7 @@
 --   Finds run r f      r is the place of the context entry whose value was found, if one was
 --   told_result x      why a row does not hold, if it does not
 --   part_behind s r    the first part that does not hold, but for the Action;  told_part x   as `deciding` tells it
-use Rattle.std.specs.Prelude.{◌≡◌, List, ℕ, zero, suc, Option, Some, None}
+use Rattle.std.specs.Prelude.{◌≡◌, List, ℕ, zero, suc, ◌<◌, Option, Some, None}
 use Rattle.chars.specs.Base.{pick}
 use Rattle.syntax.specs.Policy.{Value, Context, Statement, Request}
 use Rattle.held.specs.Held.{held_context, any_of}
@@ -21,6 +21,7 @@ pub record FindsAt (run : List ℕ) (r : ℕ) (v : Value) : Type 0 where
   pub context : Context
   pub is : context.value ≡ v
   pub lies : Lies run r (held_context context)
+  pub some : 0 < r
 
 abbrev pub Finds : List ℕ → Option ℕ → Found → Type 0
 Finds run r nothing = r ≡ None

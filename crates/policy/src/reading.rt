@@ -17,15 +17,15 @@ use text::{scan, walk};
 // make a run costs by its length, and most texts are short.
 pub const LEAST: usize = 256;
 
-const TINY: usize = 512;
+pub const TINY: usize = 512;
 
-const SMALL: usize = 1024;
+pub const SMALL: usize = 1024;
 
-const SHORT: usize = 2048;
+pub const SHORT: usize = 2048;
 
-const MIDDLE: usize = 4096;
+pub const MIDDLE: usize = 4096;
 
-const LONG: usize = 6144;
+pub const LONG: usize = 6144;
 
 // Lends f a run of N numbers. It has a frame of its own, so that runs of many lengths take no more than the one lent.
 #[inline(never)]
@@ -60,9 +60,9 @@ pub fn with_run<R, F: FnMut(&mut [u32]) -> R>(policy: &[u8], f: &mut F) -> R
 
 // A record of at most so many bytes is held in a run of twice as many numbers and some more, a longer one in one of
 // 8,448.
-const TERSE: usize = 512;
+pub const TERSE: usize = 512;
 
-const BRIEF: usize = 1024;
+pub const BRIEF: usize = 1024;
 
 // Lends f a run that is as long as a record needs.
 pub fn with_request<R, F: FnMut(&mut [u32]) -> R>(asked: &[u8], f: &mut F) -> R

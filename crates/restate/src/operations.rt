@@ -1,5 +1,6 @@
 // Restate over bytes, and the end of every operation that writes a policy.
 ghost use Rattle.std.specs.Prelude.{◌≡◌, List, length, ℕ, ◌≤◌};
+ghost use Rattle.chars.specs.Putting.{lay};
 ghost use Rattle.syntax.specs.Limits.{policy_bytes, result_bytes};
 ghost use Rattle.syntax.specs.Policy.{Policy};
 ghost use Rattle.held.specs.Held.{held};
@@ -19,6 +20,16 @@ const FEW: usize = 256;
 
 // Each function answers how many bytes were written; or a refusal, and nothing was.
 
+// The bytes at the beginning of what is lent, one by one: the library's copying would make the archive need memmove.
+fn copy(bytes: &[u8], out: &mut [u8])
+    requires { length bytes.now ≤ length out.old }
+    ensures { out.new ≡ lay bytes.now out.old }
+{
+    for i in 0..bytes.len() {
+        out[i] = bytes[i];
+    }
+}
+
 // These bytes, if they are not too many for what is lent.
 fn given(bytes: &[u8], out: &mut [u8]) -> Result<usize, Refusal>
     requires { length bytes.now ≤ result_bytes }
@@ -28,7 +39,7 @@ fn given(bytes: &[u8], out: &mut [u8]) -> Result<usize, Refusal>
     if n > out.len() {
         return Err(Refusal::OutputLength);
     }
-    out[..n].copy_from_slice(bytes);
+    copy(bytes, out);
     Ok(n)
 }
 

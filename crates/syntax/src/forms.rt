@@ -172,7 +172,13 @@ pub fn character(cs: &[u32], i: usize, k: usize) -> u32
 fn colons(cs: &[u32]) -> usize
     ensures { result ≡ colons cs.now }
 {
-    cs.iter().filter(|c| **c == COLON).count()
+    let mut n = 0;
+    for c in cs {
+        if *c == COLON {
+            n += 1;
+        }
+    }
+    n
 }
 
 pub fn is_arn(cs: &[u32]) -> bool

@@ -3,10 +3,31 @@
 --   Leads s xs a ys i   the items xs, owed at place a, come to the items ys, owed at place i
 --   Done s xs a e       they are done at e
 --   Falls s xs a f      they give the whole text the fault f
-use Rattle.std.specs.Prelude.{Result, Ok, Err, ◌≡◌, Bool, true, false, List, [], ◌∷◌, ◌++◌, ℕ, ◌-◌, ◌≤◌, ◌<◌, length}
+use Rattle.std.specs.Prelude.{
+  Result,
+  Ok,
+  Err,
+  ◌≡◌,
+  Bool,
+  true,
+  false,
+  List,
+  [],
+  ◌∷◌,
+  ◌++◌,
+  ℕ,
+  ◌-◌,
+  ◌≤◌,
+  ◌<◌,
+  eqb,
+  length,
+  get_or,
+}
+use Rattle.chars.specs.Base.{At, pick}
 use Rattle.text.specs.Machine.{Item, pass, go, ws, value, first, next, before, inner, move, from}
 use Rattle.text.specs.declared.fault.Fault.{Fault}
 use Rattle.text.specs.declared.scan.Shape.{Shape}
+use Rattle.text.specs.declared.scan.Shape.TheVariants.{List as list, Object as object}
 use Rattle.text.specs.declared.quick.Reach.{Reach}
 use Rattle.text.specs.declared.quick.Reach.TheVariants as R
 use Rattle.text.specs.declared.scan.Begun.{Begun}
@@ -43,16 +64,26 @@ ahead sh n = ws ∷ (before sh ++ inner sh n)
 -- is owed
 abbrev pub Gathered : List ℕ → Shape → ℕ → ℕ → Reach → Type 0
 Gathered s sh n a (R.Ends e) = Done s (ws ∷ first sh n ∷ []) a e
-Gathered s sh n a (R.More i sh') = (sh' ≡ sh) × Leads s (ws ∷ first sh n ∷ []) a (ahead sh n) i
+Gathered s sh n a (R.More i sh') = (sh' ≡ sh) × At s (i - 1) 44 × Leads s (ws ∷ first sh n ∷ []) a (ahead sh n) i
 
--- likewise of a value: it ends, or more of what it opens is owed, for which a level was left
+-- what a byte opens, where it opens anything
+abbrev pub shape_of : ℕ → Shape
+shape_of b = pick (eqb b 123) object list
+
+-- likewise of a value: it ends, or, behind a comma, more of what its first byte opens is owed, for which a level was left
 pub record Further (s : List ℕ) (n a : ℕ) (sh : Shape) (i : ℕ) : Type 0 where
   pub left : 0 < n
+  pub shape : sh ≡ shape_of (get_or s a 0)
+  pub comma : At s (i - 1) 44
   pub leads : Leads s (value n ∷ []) a (ahead sh (n - 1)) i
 
-abbrev pub Fronts : List ℕ → ℕ → ℕ → Reach → Type 0
-Fronts s n a (R.Ends e) = Done s (value n ∷ []) a e
-Fronts s n a (R.More i sh) = Further s n a sh i
+abbrev pub FrontsTo : List ℕ → ℕ → ℕ → Reach → Type 0
+FrontsTo s n a (R.Ends e) = Done s (value n ∷ []) a e
+FrontsTo s n a (R.More i sh) = Further s n a sh i
+
+pub record Fronts (s : List ℕ) (n a : ℕ) (r : Reach) : Type 0 where
+  pub inside : a < length s
+  pub told : FrontsTo s n a r
 
 -- behind an opening bracket or brace, however many levels are left
 abbrev pub Opened : List ℕ → Shape → ℕ → Result Begun Fault → ℕ → Type 0

@@ -34,11 +34,12 @@ fn strings(s: &[u8], at: usize) -> Option<Reach>
                 return Some(Reach::Ends(c + 1));
             }
             Some(b',') => {
+                let behind = c + 1;
                 read = Some(Reach::More {
-                    at: c + 1,
+                    at: behind,
                     shape: Shape::List,
                 });
-                i = scan::space(s, c + 1);
+                i = scan::space(s, behind);
             }
             _ => {
                 return read;

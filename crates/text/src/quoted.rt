@@ -77,15 +77,13 @@ fn tails(s: &[u8], at: usize, lo: u8, hi: u8, more: usize) -> Result<usize, Faul
     }
 }
 
-// A character that begins with the byte at a place, which is no quote: one byte, an escape, or a sequence of UTF-8.
-fn character(s: &[u8], at: usize, b: u8) -> Result<usize, Fault>
-    requires { At s.now at b }
+// A sequence of UTF-8 that begins with the byte at a place, which is beyond ASCII.
+fn sequence(s: &[u8], at: usize, b: u8) -> Result<usize, Fault>
+    requires { (At s.now at b) × (128 ≤ b) }
     ensures { Goes s.now (char ∷ []) at result }
 {
     let i = at + 1;
     match b {
-        b'\\' => escaped(s, i),
-        b' '..=127 => Ok(i),
         194..=223 => tails(s, i, 128, 191, 0),
         224 => tails(s, i, 160, 191, 1),
         237 => tails(s, i, 128, 159, 1),
@@ -93,6 +91,22 @@ fn character(s: &[u8], at: usize, b: u8) -> Result<usize, Fault>
         240 => tails(s, i, 144, 191, 2),
         241..=243 => tails(s, i, 128, 191, 2),
         244 => tails(s, i, 128, 143, 2),
+        _ => Err(Fault::Breaks(at)),
+    }
+}
+
+// A character that begins with the byte at a place, which is no quote: one byte, an escape, or a sequence of UTF-8, which
+// is told from the others by one test, since strings in other languages are made of such.
+fn character(s: &[u8], at: usize, b: u8) -> Result<usize, Fault>
+    requires { At s.now at b }
+    ensures { Goes s.now (char ∷ []) at result }
+{
+    if 128 <= b {
+        return sequence(s, at, b);
+    }
+    match b {
+        b'\\' => escaped(s, at + 1),
+        b' '..=127 => Ok(at + 1),
         _ => Err(Fault::Breaks(at)),
     }
 }

@@ -1,5 +1,5 @@
 // A room that takes what is written as far as it goes, and knows whether it was too much.
-ghost use Rattle.std.specs.Prelude.{◌≡◌, true, [], ◌∷◌, ◌≤◌, length};
+ghost use Rattle.std.specs.Prelude.{◌≡◌, true, [], ◌∷◌, ◌≤◌};
 ghost use Rattle.chars.specs.Written.{written};
 ghost use Rattle.writing.specs.Showing.{Shows, Adds, Ends, Gives};
 ghost use Rattle.writing.specs.Plain.{AddsPlain};
@@ -24,7 +24,7 @@ fn is_bare(c: u32) -> bool
 
 impl<'a> Sink<'a> {
     pub fn new(room: &'a mut [u8]) -> Sink<'a>
-        ensures { (length result.room.now ≡ length room.old) × (Shows [] result) }
+        ensures { (result.room.ghost_name ≡ room.entry.ghost_name) × (result.room.now ≡ room.old) × (Shows [] result) }
     {
         Sink {
             room,
@@ -41,6 +41,13 @@ impl<'a> Sink<'a> {
             return None;
         }
         Some(&self.room[..self.at])
+    }
+
+    // Was it too much?
+    pub(crate) fn is_over(&self) -> bool
+        ensures { result ≡ self.now.over }
+    {
+        self.over
     }
 
     // Something does not fit.

@@ -58,10 +58,13 @@ fn put_symbol(sink: &mut Sink, form: Form, y: u32)
     }
 }
 
-// The symbols of a string: those that are plain together, and each other one by itself.
+// The symbols of a string: those that are plain together, and each other one by itself. None once it was too much.
 pub fn put_symbols(sink: &mut Sink, form: Form, ys: &[u32])
     ensures { Adds (pieces form ys.now) sink.old sink.new }
 {
+    if sink.is_over() {
+        return;
+    }
     let mut i = 0usize;
     while i < ys.len() {
         i += sink.put_plain(&ys[i..]);

@@ -72,16 +72,30 @@ told_count w n k e = by (text_of w).sound refl (leb (length (text_of w).chars) n
     by true s false e = absurd (let y : ◌≡◌ {A = ℕ} 0 1 = cc in omega arith)
     by true s true e = record { said = rw s; count = cc }
 
--- where there is room for as many characters as bytes, it is never short, and so a surrogate escape stands alone
+pub told_lone : (w : List ℕ) (n : ℕ) → decoded_of (text_of w) n ≡ Err Lone → characters w ≡ wrong
+unfolding decoded_of characters
+told_lone w n e = by (text_of w).sound (leb (length (text_of w).chars) n) e
+  where
+    by : (t u : Bool) → pick t (pick u (Ok (length (text_of w).chars)) (Err Short)) (Err Lone) ≡ Err Lone
+        → only t (text_of w).chars ≡ wrong
+    by false u e = refl
+    by true true e = absurd (let y : ◌≡◌ {A = ℕ} 0 1 = cc in omega arith)
+    by true false e = absurd (let y : ◌≡◌ {A = ℕ} 0 1 = cc in omega arith)
+
+-- where there is room for as many characters as bytes, it is never short
+pub told_short : (w : List ℕ) (n : ℕ) → length w ≤ n → decoded_of (text_of w) n ≡ Err Short → ⊥
+unfolding decoded_of
+told_short w n h e = by (text_of w).sound (rw (le-leb (length (text_of w).chars) n (omega (arith, chars_few w))) at e)
+  where
+    by : (t : Bool) → pick t (Ok (length (text_of w).chars)) (Err Lone) ≡ Err Short → ⊥
+    by true e = let y : ◌≡◌ {A = ℕ} 0 1 = cc in omega arith
+    by false e = let y : ◌≡◌ {A = ℕ} 0 1 = cc in omega arith
+
+-- and so, whatever is told, a surrogate escape stands alone
 pub told_wrong : (w : List ℕ) (n : ℕ) (e : DecodeError) → length w ≤ n → decoded_of (text_of w) n ≡ Err e
     → characters w ≡ wrong
-unfolding decoded_of characters
-told_wrong w n e h q =
-    by (text_of w).sound (rw (le-leb (length (text_of w).chars) n (omega (arith, chars_few w))) at q)
-  where
-    by : (t : Bool) → pick t (Ok (length (text_of w).chars)) (Err Lone) ≡ Err e → only t (text_of w).chars ≡ wrong
-    by true q = cc
-    by false q = refl
+told_wrong w n Lone h q = told_lone w n q
+told_wrong w n Short h q = absurd (told_short w n h q)
 
 -- ---- the run afterwards
 

@@ -30,6 +30,15 @@ module _ (f : ℕ → Bool) (cs : List ℕ) where
       by k p q (yes g) = h.passes k p g
       by k p q (no g) = let w : e ≡ k = omega arith in subst (λ (n : ℕ). f (get_or cs n 0) ≡ true) w t
 
+  -- the second stretch may begin before the first ends
+  pub each_join : {a b c d : ℕ} → Each f cs a b → Each f cs c d → c ≤ b → b ≤ d → Each f cs a d
+  each_join {a} {b} {c} {d} g h p q =
+      record { low = omega (arith, g.low); high = h.high; passes = λ k u v. by k u v (dec_lt k b) }
+    where
+      by : (k : ℕ) → a ≤ k → k < d → Dec (k < b) → f (get_or cs k 0) ≡ true
+      by k u v (yes w) = g.passes k u w
+      by k u v (no w) = h.passes k (omega arith) v
+
   pub each_at : {a e : ℕ} (k : ℕ) → e ≡ k → Each f cs a e → Each f cs a k
   each_at {a} k p h = subst (Each f cs a) p h
 

@@ -9,7 +9,7 @@ use Rattle.std.specs.Result.{result_ok}
 use Rattle.std.proofs.lemmas.Option.{none-some}
 use Rattle.chars.specs.Base.{At}
 use Rattle.text.specs.Machine.{Item, ws, text, value, first, next, before, inner, close, opener}
-use Rattle.text.specs.Reading.{Leads, Done, Goes, Gathered, Fronts, ahead}
+use Rattle.text.specs.Reading.{Leads, Done, Goes, Gathered, Fronts, FrontsTo, ahead, shape_of}
 use Rattle.text.specs.declared.fault.Fault.{Fault}
 use Rattle.text.specs.declared.quick.Reach.{Reach}
 use Rattle.text.specs.declared.quick.Reach.TheVariants as R
@@ -47,6 +47,10 @@ pub string_value : {s : List ℕ} {i b e : ℕ} (n : ℕ) → At s i b → b ≡
     → Done s (value n ∷ []) i e
 string_value n p q t = seq (takes_at (value n) [] p (text ∷ []) (value_text _ n q)) t
 
+-- the byte before the place behind a comma
+comma_at : {s : List ℕ} {c b : ℕ} → At s c b → b ≡ 44 → At s (c + 1 - 1) 44
+comma_at {s} {c} g z = let e : c ≡ c + 1 - 1 = omega arith in subst (λ x. At s x 44) e (record { inside = g.inside; is = g.is ∙ z })
+
 module _ {s : List ℕ} {sh : Shape} {n a i v e c b : ℕ} {read : Option Reach} (w : Strung s sh n a i read) (q : At s i 34)
     (p : Done s (before sh) i v) (d : Done s (value n ∷ []) v e) (x : Done s (ws ∷ []) e c) (g : At s c b) where
   behind : Leads s (ws ∷ first sh n ∷ []) a (next sh n ∷ []) c
@@ -64,20 +68,33 @@ module _ {s : List ℕ} {sh : Shape} {n a i v e c b : ℕ} {read : Option Reach}
   strung_more z y =
       record {
         high = y.high;
-        told = (refl, comma z);
+        told = (refl, comma_at g z, comma z);
         due = λ u. seq (comma z) (frame (before sh ++ inner sh n) y);
       }
 
 -- ---- the front of a value
 
+-- the byte that opens tells the shape
+shape_opened : (sh : Shape) {b : ℕ} → b ≡ opener sh → sh ≡ shape_of b
+shape_opened list e = subst (λ x. list ≡ shape_of x) (sym e) refl
+shape_opened object e = subst (λ x. object ≡ shape_of x) (sym e) refl
+
 module _ {s : List ℕ} {n i b : ℕ} (p : At s i b) where
+  pub front_string : {e : ℕ} → Done s (value n ∷ []) i e → Fronts s n i (R.Ends e)
+  front_string d = record { inside = p.inside; told = d }
+
+  opened_to : (sh : Shape) (r : Reach) → b ≡ opener sh → (n ≡ 0 → ⊥) → Gathered s sh (n - 1) (i + 1) r → FrontsTo s n i r
+  opened_to sh (R.Ends k) e m q = seq (to_opened sh p.inside (p.is ∙ e) m) q
+  opened_to sh (R.More k sh') e m q =
+      record {
+        left = omega arith;
+        shape = q.0 ∙ shape_opened sh (p.is ∙ e);
+        comma = q.1;
+        leads = subst (λ (x : Shape). Leads s (value n ∷ []) i (ahead x (n - 1)) k) (sym q.0)
+            (seq (to_opened sh p.inside (p.is ∙ e) m) q.2);
+      }
+
   pub front_opened : (sh : Shape) (r : Option Reach) → b ≡ opener sh → (n ≡ 0 → ⊥)
       → IfSome r (Gathered s sh (n - 1) (i + 1)) → IfSome r (Fronts s n i)
   front_opened sh None e m q = tt
-  front_opened sh (Some (R.Ends k)) e m q = seq (to_opened sh p.inside (p.is ∙ e) m) q
-  front_opened sh (Some (R.More k sh')) e m q =
-      record {
-        left = omega arith;
-        leads = subst (λ (x : Shape). Leads s (value n ∷ []) i (ahead x (n - 1)) k) (sym q.0)
-            (seq (to_opened sh p.inside (p.is ∙ e) m) q.1);
-      }
+  front_opened sh (Some r) e m q = record { inside = p.inside; told = opened_to sh r e m q }

@@ -132,8 +132,8 @@ plain_none ys s = record { inside = omega arith; plain = none; adds = adds_none 
 pub plain_added :
     {s t : Sink} {ys xs : List ℕ} {n k : ℕ} → s.at ≤ length s.room.now → k ≡ length s.room.now - s.at
     → PlainPut ys n (take k (drop s.at s.room.now)) xs → t.room.now ≡ put_mid s.at k s.room.now xs
-    → t.at ≡ s.at + n → t.over ≡ s.over → AddsPlain ys n s t
-plain_added {s} {t} {ys} {xs} {n} {k} h e w is place same =
+    → t.at ≡ s.at + n → t.over ≡ s.over → t.room.ghost_name ≡ s.room.ghost_name → AddsPlain ys n s t
+plain_added {s} {t} {ys} {xs} {n} {k} h e w is place same lent =
     let out = s.room.now in
     let long : length (take n ys) ≡ n = length-take-le n ys w.inside in
     let room : take k (drop s.at out) ≡ drop s.at out = take_all k (drop s.at out) (omega (arith, e, length-drop s.at out)) in
@@ -152,5 +152,5 @@ plain_added {s} {t} {ys} {xs} {n} {k} h e w is place same =
     record {
       inside = w.inside;
       plain = w.plain;
-      adds = adds_in (take n ys) fits stands (omega (arith, place, long)) same;
+      adds = adds_in (take n ys) fits stands (omega (arith, place, long)) same lent;
     }

@@ -11,18 +11,18 @@ bounds-other-0 c = omega (arith, (stands c.requires.1).size)
 
 pub returns-then-other-eq-EMPTY : goal.returns-then-other-eq-EMPTY
 returns-then-other-eq-EMPTY c =
-    λ x y tx ty f g. nothing_second _ _ x y ty (standing y ty g) c.if-other-eq-EMPTY.true f
+    λ x y tx ty f g. nothing_second _ _ x y ty (standing y ty g) (omega arith) f
 
 pub bounds-out-0 : goal.bounds-out-0
 bounds-out-0 c = omega (arith, (stands c.requires.0).size)
 
-pub copy_from_slice-requires : goal.copy_from_slice-requires
-copy_from_slice-requires c = (stands c.requires.0).size ∙ sym (stands c.requires.1).size
+pub copy-requires : goal.copy-requires
+copy-requires c = (stands c.requires.1).size ∙ sym (stands c.requires.0).size
 
 pub returns-then-out-eq-EMPTY : goal.returns-then-out-eq-EMPTY
 returns-then-out-eq-EMPTY c =
     λ x y tx ty f g. nothing_first _ _ x y tx (standing x tx f) c.if-out-eq-EMPTY.true
-    (c.copy_from_slice.ensures.after ∙ g)
+    (c.copy.ensures ∙ g)
 
 pub returns-then-is_one_text : goal.returns-then-is_one_text
 returns-then-is_one_text c =
@@ -38,11 +38,11 @@ put_mark-requires c = (stands c.requires.0).size
 pub returns-in-FinalStar : goal.returns-in-FinalStar
 returns-in-FinalStar c =
     λ x y tx ty f g. joined_final _ _ x y tx ty f g (standing x tx f) (standing y ty g) c.if-out-eq-EMPTY.false
-    c.if-other-eq-EMPTY.false (sym c.is_one_text.ensures ∙ c.if-is_one_text.false)
+    (λ z. omega arith) (sym c.is_one_text.ensures ∙ c.if-is_one_text.false)
     (sym c.in-FinalStar.ensures) (c.put_shared.ensures x y tx ty f g)
 
 pub returns-in-Without : goal.returns-in-Without
 returns-in-Without c =
     λ x y tx ty f g. joined_other _ _ x y tx ty f g (standing x tx f) (standing y ty g) c.if-out-eq-EMPTY.false
-    c.if-other-eq-EMPTY.false (sym c.is_one_text.ensures ∙ c.if-is_one_text.false)
+    (λ z. omega arith) (sym c.is_one_text.ensures ∙ c.if-is_one_text.false)
     (λ z. not_final c.in-Without.is (c.of.ensures ∙ z)) c.put_mark.ensures

@@ -147,6 +147,30 @@ sofar_on {w} {before} p m = m.goes before p
 pub moves_at : {w run run' : List ℕ} {i n r q : ℕ} → Moves w run run' i n r → r ≡ q → Moves w run run' i n q
 moves_at {w} {run} {run'} {i} {n} m e = subst (λ (j : ℕ). Moves w run run' i n j) e m
 
+-- nothing, and one stretch behind another
+pub moves_none : {w run : List ℕ} {i n : ℕ} → i ≤ length w → Moves w run run i n i
+moves_none {w} {run} {i} {n} h =
+    let z : n ≡ n + (i - i) = omega arith in
+    record {
+      on = omega arith;
+      inside = h;
+      size = refl;
+      goes = λ before p. subst (λ (m : ℕ). Sofar w before run i m) z p;
+    }
+
+pub moves_then : {w a b c : List ℕ} {i n k r q : ℕ} → Moves w a b i n r → k ≡ n + (r - i) → Moves w b c r k q
+    → Moves w a c i n q
+moves_then {w} {a} {b} {c} {i} {n} {k} {r} {q} m e o =
+    let y : k + (q - r) ≡ n + (q - i) = omega (arith, m.on, o.on) in
+    record {
+      on = omega (arith, m.on, o.on);
+      inside = o.inside;
+      size = o.size ∙ m.size;
+      goes = λ before p.
+          let s = subst (λ (l : ℕ). Sofar w before b r l) (sym e) (m.goes before p) in
+          subst (λ (l : ℕ). Sofar w before c q l) y (o.goes before s);
+    }
+
 pub moves_byte : {w run run' : List ℕ} {i n c : ℕ} (j : ℕ) → Moves w run run' i n (i + j) → i + j < length w
     → Plain (get_or w (i + j) 0) → c ≡ get_or w (i + j) 0 → Moves w run (set run' (n + j) c) i n (i + j + 1)
 moves_byte {w} {run} {run'} {i} {n} {c} j m h b e =

@@ -5,6 +5,7 @@ use borrow.Author.Tests.{not-true}
 use Rattle.refine.specs.Sound.{no_content, no_allow, finishes}
 use Rattle.refine.proofs.Laws.Keepable.{policy_writ, values_enough}
 use mathlib.Core.Path.{ap}
+use lib.ListN.{length}
 use mathlib.Core.Bool.{not}
 use Rattle.refine.proofs.operations.finish_held.Goals as goal
 
@@ -45,7 +46,7 @@ deliver-requires c =
     let told = c.if-not-holds_room.false in
     let fits = sym (c.holds_room.ensures c.requires.0.policy c.requires.0.lies c.requires.0.sound) ∙ told in
     let writ = policy_writ c.requires.0.policy c.args.room.now c.requires.0.sound c.requires.1 fits in
-    omega (arith, (c.put_refined.ensures c.requires.0.policy c.requires.0.lies writ).size, c.new-sink.ensures.0)
+    omega (arith, (c.put_refined.ensures c.requires.0.policy c.requires.0.lies writ).size, ap length c.new-sink.ensures.1)
 
 pub returns : goal.returns
 returns c =
@@ -55,4 +56,4 @@ returns c =
     let f = sym (c.holds_room.ensures p l s) ∙ told in
     finishes f (sym (c.some_allowed.ensures p l) ∙ allows) (c.deliver.ensures _
     ((c.put_refined.ensures p l (policy_writ p c.args.room.now s c.requires.1 f)).adds _
-    c.new-sink.ensures.1))
+    c.new-sink.ensures.2))

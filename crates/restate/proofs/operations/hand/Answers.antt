@@ -10,4 +10,4 @@ pub returns-in-Some : goal.returns-in-Some
 returns-in-Some c =
     λ x l. c.given.ensures
     ∙ ap (λ (bs : List ℕ). handed bs c.args.out.now)
-    (given_is c.args.out.now (shows_taken c.new-sink.ensures.1 (c.put_policy.ensures x l)) c.written.ensures c.in-Some.is)
+    (given_is c.args.out.now (shows_taken c.new-sink.ensures.2 (c.put_policy.ensures x l)) c.written.ensures c.in-Some.is)

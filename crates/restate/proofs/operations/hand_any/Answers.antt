@@ -3,4 +3,4 @@ use Rattle.restate.proofs.Laws.Handing.{shows_taken}
 use Rattle.restate.proofs.operations.hand_any.Goals as goal
 
 pub returns : goal.returns
-returns c = λ x l. c.deliver.ensures _ (shows_taken c.new-sink.ensures.1 (c.put_policy.ensures x l))
+returns c = λ x l. c.deliver.ensures _ (shows_taken c.new-sink.ensures.2 (c.put_policy.ensures x l))

@@ -15,15 +15,17 @@ returns-then-is_empty g c =
 pub returns-then-digits-eq1 : goal.returns-then-digits-eq1
 returns-then-digits-eq1 g c =
     λ cs p.
+    let zero : c.into.result ≡ 48 = omega arith in
     sym (number_zero cs (sym p.many ∙ c.if-digits-eq1.true)
-    (sym (p.only 0 _ _ (omega arith) c.index-digits-0.is c.into.ensures) ∙ c.if-into-eq-ZERO.true))
+    (sym (p.only 0 _ _ (omega arith) c.index-digits-0.is c.into.ensures) ∙ zero))
 
 pub returns-else-digits-eq1 : goal.returns-else-digits-eq1
 returns-else-digits-eq1 g c =
     λ cs p.
     let some : length c.args.digits.now ≡ 0 → ⊥ = search rules in
+    let zero : c.into.result ≡ 48 = omega arith in
     sym (number_leading cs (λ e. some (p.many ∙ e)) (λ e. c.if-digits-eq1.false (p.many ∙ e))
-    (sym (p.only 0 _ _ (omega (arith, some)) c.index-digits-0.is c.into.ensures) ∙ c.if-into-eq-ZERO.true))
+    (sym (p.only 0 _ _ (omega (arith, some)) c.index-digits-0.is c.into.ensures) ∙ zero))
 
 pub loop-d-init : goal.loop-d-init
 loop-d-init g c = (
@@ -31,7 +33,9 @@ loop-d-init g c = (
   λ cs p.
       let some : length c.args.digits.now ≡ 0 → ⊥ = search rules in
       counted_start cs (λ e. some (p.many ∙ e))
-      (λ e. c.if-into-eq-ZERO.false (p.only 0 _ _ (omega (arith, some)) c.index-digits-0.is c.into.ensures ∙ e)),
+      (λ e.
+      let zero : c.into.result ≡ 48 = p.only 0 _ _ (omega (arith, some)) c.index-digits-0.is c.into.ensures ∙ e in
+      omega (arith, zero)),
 )
 
 pub returns-in_err-n : goal.returns-in_err-n

@@ -9,14 +9,14 @@ use Rattle.text.specs.Machine.{value}
 use Rattle.text.specs.Reading.{Done}
 use Rattle.text.specs.declared.scan.Shape.TheVariants.{List, Object}
 use Rattle.text.proofs.Laws.Places.{byte_due}
-use Rattle.text.proofs.Laws.Quick.{strung_first, strung_close, strung_more, string_value, front_opened, ok_done}
+use Rattle.text.proofs.Laws.Quick.{strung_first, strung_close, strung_more, string_value, front_string, front_opened, ok_done}
 use Rattle.text.proofs.quick.+front_members_of.Goals as goal
 
 pub front-returns-in_ok-e-in-Some-eq34 : goal.front-returns-in_ok-e-in-Some-eq34
 front-returns-in_ok-e-in-Some-eq34 t c =
     let p : At c.args.s.now c.args.at c.in-Some-eq34.field-0.now = search rules in
-    string_value _ p c.in-Some-eq34.field-0-test
-    (ok_done c.string.result c.string.ensures (sym c.ok.ensures.value ∙ c.in_ok-e-in-Some-eq34.was))
+    front_string p (string_value _ p c.in-Some-eq34.field-0-test
+    (ok_done c.string.result c.string.ensures (sym c.ok.ensures.value ∙ c.in_ok-e-in-Some-eq34.was)))
 
 pub front-returns-in-Some-eq91 : goal.front-returns-in-Some-eq91
 front-returns-in-Some-eq91 t c =

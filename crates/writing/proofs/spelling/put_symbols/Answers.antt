@@ -1,8 +1,12 @@
 -- Each turn adds the symbols that are plain and one that is not.
-use mathlib.Core.Path.{refl}
+use mathlib.Core.Path.{refl, sym, ◌∙◌}
 use native.Mathlib.Omega.{arith}
 use Rattle.writing.proofs.Laws.Each.{each_start, each_next, each_plain, each_end, piece_plain, pieces_each}
+use Rattle.writing.proofs.Laws.Showing.{adds_still}
 use Rattle.writing.proofs.spelling.put_symbols.Goals as goal
+
+pub returns-then-is_over : goal.returns-then-is_over
+returns-then-is_over c = adds_still _ (sym c.is_over.ensures ∙ c.if-is_over.true)
 
 pub loop-i-init : goal.loop-i-init
 loop-i-init c = each_start _ _ _

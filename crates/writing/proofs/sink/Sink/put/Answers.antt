@@ -4,4 +4,4 @@ use Rattle.writing.proofs.Laws.Showing.{byte_in}
 use Rattle.writing.proofs.sink.Sink.put.Goals as goal
 
 pub returns : goal.returns
-returns c = byte_in _ c.if-self.false refl refl refl
+returns c = byte_in _ c.if-self.false refl refl refl refl

@@ -7,4 +7,4 @@ pub returns-then-self : goal.returns-then-self
 returns-then-self c = plain_none _ _
 
 pub returns : goal.returns
-returns c = plain_added c.if-self.false refl c.put_plain-n.ensures refl refl refl
+returns c = plain_added c.if-self.false refl c.put_plain-n.ensures refl refl refl refl
