@@ -1,5 +1,5 @@
 // Records under a policy, and what is printed of them: a line is printed by one write.
-ghost use Rattle.std.specs.Prelude.{List, ℕ, ◌<◌, length};
+ghost use Rattle.std.specs.Prelude.{◌≡◌, List, ℕ, ◌<◌, length};
 ghost use Rattle.refine.specs.Sound.{HeldSound, Kept};
 
 use std::io;
@@ -16,9 +16,9 @@ pub struct Feeder<'a> {
 }
 
 impl<'a> Model for Feeder<'a> {
-    ghost Value = { List ℕ };
+    ghost Value = { List ℕ × List ℕ };
 
-    ghost view = { λ f. f.room };
+    ghost view = { λ f. (f.run.now, f.room) };
 
     ghost invariant = { λ f. Kept f.run.now f.request f.room };
 }
@@ -26,6 +26,7 @@ impl<'a> Model for Feeder<'a> {
 impl<'a> Feeder<'a> {
     pub fn new(run: &'a [u32]) -> Feeder<'a>
         requires { HeldSound run.now }
+        ensures { result.0 ≡ run.now }
     {
         Feeder {
             run,
@@ -35,7 +36,9 @@ impl<'a> Feeder<'a> {
     }
 
     // A record, by its line's number: a refusal is printed. An empty line is none.
-    pub fn feed(&mut self, rt: &impl Print, line: &[u8], number: u64) -> io::Result<()> {
+    pub fn feed(&mut self, rt: &impl Print, line: &[u8], number: u64) -> io::Result<()>
+        ensures { self.new.0 ≡ self.old.0 }
+    {
         if line.is_empty() {
             return Ok(());
         }

@@ -5,7 +5,7 @@
 mod feeding;
 mod reading;
 
-ghost use Rattle.std.specs.Prelude.{◌≤◌, length, IfOk};
+ghost use Rattle.std.specs.Prelude.{◌≡◌, ◌≤◌, length, IfOk};
 ghost use Rattle.refine.specs.Sound.{HeldSound};
 
 use reading::Log;
@@ -17,7 +17,9 @@ const POLICY: usize = 16385;
 
 // The whole input; or nothing, where it could not be read to its end. A proved loop has to end, and nothing says that the
 // input does: so the pieces are counted, up to a number that no run comes to.
-fn feed_all(rt: &impl Print, input: &mut impl io::Read, log: &mut Log) -> io::Result<Option<()>> {
+fn feed_all(rt: &impl Print, input: &mut impl io::Read, log: &mut Log) -> io::Result<Option<()>>
+    ensures { log.new.feeder.0 ≡ log.old.feeder.0 }
+{
     let mut piece = [0u8; 65536];
     for _ in 0..u64::MAX {
         let Ok(n) = input.read(&mut piece) else {

@@ -1,5 +1,5 @@
 // Lines of any length from pieces of the input, in constant room.
-ghost use Rattle.std.specs.Prelude.{◌≤◌, length, IfOk};
+ghost use Rattle.std.specs.Prelude.{◌≡◌, ◌≤◌, length, IfOk};
 ghost use Rattle.refine.specs.Sound.{HeldSound};
 
 use crate::feeding::Feeder;
@@ -50,6 +50,7 @@ pub struct Log<'a> {
 impl<'a> Log<'a> {
     pub fn new(run: &'a [u32]) -> Log<'a>
         requires { HeldSound run.now }
+        ensures { result.feeder.0 ≡ run.now }
     {
         Log {
             feeder: Feeder::new(run),
@@ -59,7 +60,9 @@ impl<'a> Log<'a> {
     }
 
     // The last part of a line.
-    fn end_line(&mut self, rt: &impl Print, part: &[u8]) -> io::Result<()> {
+    fn end_line(&mut self, rt: &impl Print, part: &[u8]) -> io::Result<()>
+        ensures { self.new.feeder.0 ≡ self.old.feeder.0 }
+    {
         if self.line.have == 0 {
             self.feeder.feed(rt, part, self.number)?;
         } else {
@@ -72,7 +75,9 @@ impl<'a> Log<'a> {
     }
 
     // The lines of a piece of the input; the last is kept if it is not ended there.
-    pub fn feed(&mut self, rt: &impl Print, piece: &[u8]) -> io::Result<()> {
+    pub fn feed(&mut self, rt: &impl Print, piece: &[u8]) -> io::Result<()>
+        ensures { self.new.feeder.0 ≡ self.old.feeder.0 }
+    {
         let mut at = 0usize;
         loop {
             let Some(Line { end, next }) = chars::lines::line_at(piece, at) else {

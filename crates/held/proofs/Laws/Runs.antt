@@ -63,6 +63,11 @@ module _ {run : List ℕ} {p : ℕ} where
 
 -- ---- a number before things
 
+pub list_lying :
+    {A : Type 0} {h : A → List ℕ} {run : List ℕ} {p : ℕ}
+    → Lying (held_list h) run p → LyingMany h run (p + 1) (get_or run p 0)
+list_lying y = record { things = y.thing; count = lies_first y.lies; lies = lies_next y.lies }
+
 -- as many numbers as things at least
 pub list_long :
     {A : Type 0} (h : A → List ℕ) → ((x : A) → 1 ≤ length (h x)) → (xs : List A) → length xs ≤ length (held_each h xs)
