@@ -93,7 +93,9 @@ impl<'a> Log<'a> {
     }
 
     // The last line, if the input does not end it, and then the result.
-    pub fn finish(&mut self, rt: &impl Print) -> io::Result<()> {
+    pub fn finish(&mut self, rt: &impl Print) -> io::Result<()>
+        ensures { self.new.feeder.0 ≡ self.old.feeder.0 }
+    {
         self.feeder.feed(rt, self.line.kept(), self.number)?;
         self.feeder.finish(rt)
     }
